@@ -1,0 +1,185 @@
+-- Laws of tests in order, for any table.
+use mathlib.Core.Path.{_≡_, refl, sym, ap, _∙_, subst}
+use Prim.Native.Nat.{ℕ, zero, suc}
+use native.Mathlib.Omega.{arith}
+use mathlib.Core.Bool.{Bool, true, false, not, cond, _&&_}
+use borrow.Author.Tests.{ne-eqb}
+use lib.Dec.{T, eqb, ltb, ltb→lt}
+use mir.Facts.{and-yes}
+use Rattle.refusals.specs.Tests.{Tests, _if_else_, _when_else_, otherwise, Given, refused, answered, given, number, answer, answerOf, kept, keptOf, carry, orElse}
+
+module _ {A : Type 0} where
+  -- the row k is the first whose test holds; the last row, `otherwise`, has none to fail
+  abbrev pub First : ℕ → Tests A → Type 0
+  First zero (n if b else rest) = T b
+  First zero (a when b else rest) = T b
+  First zero (otherwise a) = Unit {0}
+  First (suc k) (n if b else rest) = T (not b) × First k rest
+  First (suc k) (a when b else rest) = T (not b) × First k rest
+  First (suc k) (otherwise a) = ⊥
+
+  -- what the row k gives
+  abbrev pub row : ℕ → Tests A → Given A
+  row zero (n if b else rest) = refused n
+  row zero (a when b else rest) = answered a
+  row zero (otherwise a) = answered a
+  row (suc k) (n if b else rest) = row k rest
+  row (suc k) (a when b else rest) = row k rest
+  row (suc k) (otherwise a) = answered a
+
+  -- the first row whose test holds gives what the table gives
+  pub first : (k : ℕ) (t : Tests A) → First k t → given t ≡ row k t
+  first zero (n if true else rest) p = refl
+  first zero (n if false else rest) p = absurd p
+  first zero (a when true else rest) p = refl
+  first zero (a when false else rest) p = absurd p
+  first zero (otherwise a) p = refl
+  first (suc k) (n if true else rest) p = absurd (p .0)
+  first (suc k) (n if false else rest) p = first k rest (p .1)
+  first (suc k) (a when true else rest) p = absurd (p .0)
+  first (suc k) (a when false else rest) p = first k rest (p .1)
+  first (suc k) (otherwise a) p = absurd p
+
+  -- and there is one
+  pub some-first : (t : Tests A) → (k : ℕ) × First k t
+  some-first (n if true else rest) = (0, tt)
+  some-first (n if false else rest) = let s = some-first rest in (suc (s .0), (tt, s .1))
+  some-first (a when true else rest) = (0, tt)
+  some-first (a when false else rest) = let s = some-first rest in (suc (s .0), (tt, s .1))
+  some-first (otherwise a) = (0, tt)
+
+  -- exactly when: the table gives g where the first row that holds does, and only there
+  pub exactly : (t : Tests A) (g : Given A) → given t ≡ g → (k : ℕ) × (First k t × (row k t ≡ g))
+  exactly t g e = let s = some-first t in (s .0, (s .1, sym (first (s .0) t (s .1)) ∙ e))
+
+  -- no test holds
+  abbrev pub Passes : Tests A → Type 0
+  Passes (n if b else rest) = T (not b) × Passes rest
+  Passes (a when b else rest) = T (not b) × Passes rest
+  Passes (otherwise a) = Unit {0}
+
+  -- the answer where none does
+  abbrev pub final : Tests A → A
+  final (n if b else rest) = final rest
+  final (a when b else rest) = final rest
+  final (otherwise a) = a
+
+  pub passes : (t : Tests A) → Passes t → given t ≡ answered (final t)
+  passes (n if true else rest) p = absurd (p .0)
+  passes (n if false else rest) p = passes rest (p .1)
+  passes (a when true else rest) p = absurd (p .0)
+  passes (a when false else rest) p = passes rest (p .1)
+  passes (otherwise a) p = refl
+
+  -- after a refusal state and buffers stay, and the caller sees its number
+  pub kept-refused : {B : Type 0} (t : Tests A) (n : ℕ) (old new : B) → given t ≡ refused n → kept t old new ≡ old
+  kept-refused t n old new e = rw e
+
+  pub number-refused : (t : Tests A) (n : ℕ) → given t ≡ refused n → number t ≡ n
+  number-refused t n e = rw e
+
+  -- every number of the table is one of which p holds
+  abbrev pub numbered : (ℕ → Bool) → Tests A → Bool
+  numbered p (n if b else rest) = p n && numbered p rest
+  numbered p (a when b else rest) = numbered p rest
+  numbered p (otherwise a) = true
+
+  -- and then so is the number of a refusal
+  pub refused-numbered : (p : ℕ → Bool) (t : Tests A) → T (numbered p t) → (n : ℕ) → given t ≡ refused n → T (p n)
+  refused-numbered p (m if true else rest) l n e = let s : m ≡ n = cc in subst (λ x. T (p x)) s (and-yes (p m) (numbered p rest) l .0)
+  refused-numbered p (m if false else rest) l n e = refused-numbered p rest (and-yes (p m) (numbered p rest) l .1) n e
+  refused-numbered p (a when true else rest) l n e = let z : _≡_ {A = ℕ} 0 1 = cc in absurd (omega arith)
+  refused-numbered p (a when false else rest) l n e = refused-numbered p rest l n e
+  refused-numbered p (otherwise a) l n e = let z : _≡_ {A = ℕ} 0 1 = cc in absurd (omega arith)
+
+  -- a table of refusals alone, whose numbers are not 0: 0 is given exactly where no test holds, and any other number is a refusal's
+  abbrev pub plain : Tests A → Bool
+  plain (n if b else rest) = ltb 0 n && plain rest
+  plain (a when b else rest) = false
+  plain (otherwise a) = true
+
+  pub passed : (t : Tests A) → T (plain t) → number t ≡ 0 → Passes t
+  passed (n if true else rest) l e = absurd (omega (arith, ltb→lt 0 n (and-yes (ltb 0 n) (plain rest) l .0)))
+  passed (n if false else rest) l e = (tt, passed rest (and-yes (ltb 0 n) (plain rest) l .1) e)
+  passed (a when b else rest) l e = absurd l
+  passed (otherwise a) l e = tt
+
+  pub refused-number : (t : Tests A) → (number t ≡ 0 → ⊥) → given t ≡ refused (number t)
+  refused-number (n if true else rest) ne = refl
+  refused-number (n if false else rest) ne = refused-number rest ne
+  refused-number (a when true else rest) ne = absurd (ne refl)
+  refused-number (a when false else rest) ne = refused-number rest ne
+  refused-number (otherwise a) ne = absurd (ne refl)
+
+  -- the answer of such a table, from the number n that code found: the refusal by n, or at 0 the answer of its last row
+  pub by-number : (say : ℕ → A) (t : Tests A) {n : ℕ} → n ≡ number t → (n ≡ 0 → ⊥) → say n ≡ answer say t
+  by-number say t e ne = ap say e ∙ sym (ap (answerOf say) (refused-number t (λ z. ne (e ∙ z))))
+
+  pub by-passing : (say : ℕ → A) (t : Tests A) → T (plain t) → number t ≡ 0 → final t ≡ answer say t
+  by-passing say t l e = sym (ap (answerOf say) (passes t (passed t l e)))
+
+  -- and what is left of a state or a buffer
+  pub kept-number : {B : Type 0} (t : Tests A) {n : ℕ} (old new : B) → n ≡ number t → (n ≡ 0 → ⊥) → kept t old new ≡ old
+  kept-number t old new e ne = ap (λ g. keptOf g old new) (refused-number t (λ z. ne (e ∙ z)))
+
+  pub kept-passing : {B : Type 0} (t : Tests A) (old new : B) → T (plain t) → number t ≡ 0 → kept t old new ≡ new
+  kept-passing t old new l e = ap (λ g. keptOf g old new) (passes t (passed t l e))
+
+  -- ---- a table in code, read from its last line to its first
+
+  -- r is the number of the tests t, after tests that gave n
+  pub record From (n : ℕ) (t : Tests A) (r : ℕ) : Type 0 where
+    pub is : r ≡ cond (eqb n 0) (number t) n
+
+  pub last-line : (n m : ℕ) (b : Bool) (a : A) {r : ℕ} → r ≡ orElse n b m → From n (m if b else otherwise a) r
+  unfolding orElse
+  last-line n m b a e = record { is = e ∙ go b }
+    where
+      go : (b : Bool) → cond (eqb n 0) (cond b m 0) n ≡ cond (eqb n 0) (number (m if b else otherwise a)) n
+      go true = refl
+      go false = refl
+
+  pub line : (n m : ℕ) (b : Bool) {n′ r : ℕ} {rest : Tests A} → T (ltb 0 m) → n′ ≡ orElse n b m → From n′ rest r → From n (m if b else rest) r
+  unfolding orElse
+  line n m b {rest = rest} some e f = record { is = f .is ∙ ap (λ x. cond (eqb x 0) (number rest) x) e ∙ go (eqb n 0) b refl }
+    where
+      go : (z b : Bool) → eqb n 0 ≡ z → cond (eqb (cond z (cond b m 0) n) 0) (number rest) (cond z (cond b m 0) n) ≡ cond z (number (m if b else rest)) n
+      go true true h = rw (ne-eqb m 0 (λ q. omega (arith, ltb→lt 0 m some)))
+      go true false h = refl
+      go false b h = rw h
+
+  -- a test that is known to fail has no line
+  pub no-line : (m : ℕ) {n r : ℕ} {rest : Tests A} → From n rest r → From n (m if false else rest) r
+  no-line m f = record { is = f .is }
+
+  pub first-line : (t : Tests A) {r : ℕ} → From 0 t r → r ≡ number t
+  first-line t f = f .is
+
+-- ---- tables put together
+
+module _ {A B : Type 0} where
+  -- what is made of the answer is made of what a refusal is said by, too
+  pub carried : (f : A → B) (say : ℕ → A) (t : Tests A) → answer (λ n. f (say n)) (carry f t) ≡ f (answer say t)
+  carried f say (n if true else rest) = refl
+  carried f say (n if false else rest) = carried f say rest
+  carried f say (a when true else rest) = refl
+  carried f say (a when false else rest) = carried f say rest
+  carried f say (otherwise a) = refl
+
+  -- the tests of the first table, then the second one
+  abbrev pub before : Tests A → Tests B → Tests B
+  before (n if b else rest) then = n if b else before rest then
+  before (a when b else rest) then = before rest then
+  before (otherwise a) then = then
+
+  pub before-refused : (t : Tests A) (then : Tests B) → T (plain t) → (number t ≡ 0 → ⊥) → given (before t then) ≡ refused (number t)
+  before-refused (n if true else rest) then l ne = refl
+  before-refused (n if false else rest) then l ne = before-refused rest then (and-yes (ltb 0 n) (plain rest) l .1) ne
+  before-refused (a when b else rest) then l ne = absurd l
+  before-refused (otherwise a) then l ne = absurd (ne refl)
+
+  pub before-passed : (t : Tests A) (then : Tests B) → T (plain t) → number t ≡ 0 → given (before t then) ≡ given then
+  before-passed (n if true else rest) then l e = absurd (omega (arith, ltb→lt 0 n (and-yes (ltb 0 n) (plain rest) l .0)))
+  before-passed (n if false else rest) then l e = before-passed rest then (and-yes (ltb 0 n) (plain rest) l .1) e
+  before-passed (a when b else rest) then l e = absurd l
+  before-passed (otherwise a) then l e = refl

@@ -1,0 +1,168 @@
+-- The numbers that a caller may see, one name each, as document 01's table has them. src/lib.rt has the same names in capitals for code.
+use Prim.Native.Nat.{ℕ}
+use mathlib.Core.Bool.{Bool, false, _||_}
+use mathlib.Core.List.{List, [], _∷_}
+use lib.Dec.{eqb}
+
+-- buffer under 48 octets
+abbrev pub buffer-too-short : ℕ
+buffer-too-short = 1
+
+-- asked version not 1 to 4
+abbrev pub version-unsupported : ℕ
+version-unsupported = 2
+
+-- own clock reading zero
+abbrev pub own-clock-zero : ℕ
+own-clock-zero = 3
+
+-- client stopped
+abbrev pub client-stopped : ℕ
+client-stopped = 4
+
+-- already waiting
+abbrev pub already-waiting : ℕ
+already-waiting = 5
+
+-- asked before, and uptime is below that uptime or less than 2^exponent s past it
+abbrev pub asked-too-soon : ℕ
+asked-too-soon = 6
+
+-- packet length not 48 or 68
+abbrev pub packet-length-wrong : ℕ
+packet-length-wrong = 7
+
+-- not waiting
+abbrev pub not-waiting : ℕ
+not-waiting = 8
+
+-- originate differs from the request's transmit
+abbrev pub originate-mismatch : ℕ
+originate-mismatch = 9
+
+-- mode not 4
+abbrev pub reply-mode-wrong : ℕ
+reply-mode-wrong = 10
+
+-- version differs from the request's
+abbrev pub version-mismatch : ℕ
+version-mismatch = 11
+
+-- LI 3
+abbrev pub server-unsynchronised : ℕ
+server-unsynchronised = 12
+
+-- stratum above 15
+abbrev pub stratum-too-high : ℕ
+stratum-too-high = 13
+
+-- receive or transmit zero
+abbrev pub server-timestamp-zero : ℕ
+server-timestamp-zero = 14
+
+-- T4 - T1 negative
+abbrev pub arrived-before-sent : ℕ
+arrived-before-sent = 15
+
+-- T4 - T1 above 2^36
+abbrev pub arrived-too-late : ℕ
+arrived-too-late = 16
+
+-- T3 - T2 negative
+abbrev pub answered-before-received : ℕ
+answered-before-received = 17
+
+-- d negative
+abbrev pub delay-negative : ℕ
+delay-negative = 18
+
+-- P or Q not in -2^62 to 2^62 - 1
+abbrev pub difference-out-of-range : ℕ
+difference-out-of-range = 19
+
+-- uptime below the request's, or under 16 s past it
+abbrev pub gave-up-too-soon : ℕ
+gave-up-too-soon = 20
+
+-- request mode not 3
+abbrev pub request-mode-wrong : ℕ
+request-mode-wrong = 21
+
+-- request version not 1 to 4
+abbrev pub request-version-unsupported : ℕ
+request-version-unsupported = 22
+
+-- set LI not 0 to 2, or set precision not in -32 to 0
+abbrev pub settings-out-of-range : ℕ
+settings-out-of-range = 23
+
+-- timestamp zero
+abbrev pub timestamp-zero : ℕ
+timestamp-zero = 24
+
+-- no such date or time
+abbrev pub no-such-date : ℕ
+no-such-date = 25
+
+-- outside 1968-01-20 03:14:08 to 2104-02-26 09:42:23, fractions included
+abbrev pub outside-window : ℕ
+outside-window = 26
+
+-- field to write too large (LI over 3, VN or mode over 7)
+abbrev pub field-too-large : ℕ
+field-too-large = 27
+
+-- tick zero or above 2^32
+abbrev pub tick-out-of-range : ℕ
+tick-out-of-range = 28
+
+-- record handed in not legal
+abbrev pub record-not-legal : ℕ
+record-not-legal = 29
+
+-- replay line malformed
+abbrev pub line-malformed : ℕ
+line-malformed = 64
+
+-- all of them
+abbrev pub numbers : List ℕ
+numbers =
+    buffer-too-short
+    ∷ version-unsupported
+    ∷ own-clock-zero
+    ∷ client-stopped
+    ∷ already-waiting
+    ∷ asked-too-soon
+    ∷ packet-length-wrong
+    ∷ not-waiting
+    ∷ originate-mismatch
+    ∷ reply-mode-wrong
+    ∷ version-mismatch
+    ∷ server-unsynchronised
+    ∷ stratum-too-high
+    ∷ server-timestamp-zero
+    ∷ arrived-before-sent
+    ∷ arrived-too-late
+    ∷ answered-before-received
+    ∷ delay-negative
+    ∷ difference-out-of-range
+    ∷ gave-up-too-soon
+    ∷ request-mode-wrong
+    ∷ request-version-unsupported
+    ∷ settings-out-of-range
+    ∷ timestamp-zero
+    ∷ no-such-date
+    ∷ outside-window
+    ∷ field-too-large
+    ∷ tick-out-of-range
+    ∷ record-not-legal
+    ∷ line-malformed
+    ∷ []
+
+-- n is one of them
+abbrev pub member : ℕ → List ℕ → Bool
+member n [] = false
+member n (m ∷ ms) = eqb n m || member n ms
+
+abbrev pub listed : ℕ → Bool
+listed n = member n numbers

@@ -1,0 +1,150 @@
+// The numbers that a caller may see. Each has one name here and the same name in specs/Numbers.antt; `numbers` ties the two.
+ghost use mathlib.Core.Path.{_≡_};
+ghost use Rattle.refusals.specs.Numbers.{numbers};
+ghost use Rattle.refusals.specs.Tests.{between, orElse};
+
+// Buffer under 48 octets.
+pub const BUFFER_TOO_SHORT: u8 = 1;
+
+// Asked version not 1 to 4.
+pub const VERSION_UNSUPPORTED: u8 = 2;
+
+// Own clock reading zero.
+pub const OWN_CLOCK_ZERO: u8 = 3;
+
+// Client stopped.
+pub const CLIENT_STOPPED: u8 = 4;
+
+// Already waiting.
+pub const ALREADY_WAITING: u8 = 5;
+
+// Asked before, and uptime is below that uptime or less than 2^exponent s past it.
+pub const ASKED_TOO_SOON: u8 = 6;
+
+// Packet length not 48 or 68.
+pub const PACKET_LENGTH_WRONG: u8 = 7;
+
+// Not waiting.
+pub const NOT_WAITING: u8 = 8;
+
+// Originate differs from the request's transmit.
+pub const ORIGINATE_MISMATCH: u8 = 9;
+
+// Mode not 4.
+pub const REPLY_MODE_WRONG: u8 = 10;
+
+// Version differs from the request's.
+pub const VERSION_MISMATCH: u8 = 11;
+
+// LI 3.
+pub const SERVER_UNSYNCHRONISED: u8 = 12;
+
+// Stratum above 15.
+pub const STRATUM_TOO_HIGH: u8 = 13;
+
+// Receive or transmit zero.
+pub const SERVER_TIMESTAMP_ZERO: u8 = 14;
+
+// T4 - T1 negative.
+pub const ARRIVED_BEFORE_SENT: u8 = 15;
+
+// T4 - T1 above 2^36.
+pub const ARRIVED_TOO_LATE: u8 = 16;
+
+// T3 - T2 negative.
+pub const ANSWERED_BEFORE_RECEIVED: u8 = 17;
+
+// D negative.
+pub const DELAY_NEGATIVE: u8 = 18;
+
+// P or Q not in -2^62 to 2^62 - 1.
+pub const DIFFERENCE_OUT_OF_RANGE: u8 = 19;
+
+// Uptime below the request's, or under 16 s past it.
+pub const GAVE_UP_TOO_SOON: u8 = 20;
+
+// Request mode not 3.
+pub const REQUEST_MODE_WRONG: u8 = 21;
+
+// Request version not 1 to 4.
+pub const REQUEST_VERSION_UNSUPPORTED: u8 = 22;
+
+// Set LI not 0 to 2, or set precision not in -32 to 0.
+pub const SETTINGS_OUT_OF_RANGE: u8 = 23;
+
+// Timestamp zero.
+pub const TIMESTAMP_ZERO: u8 = 24;
+
+// No such date or time.
+pub const NO_SUCH_DATE: u8 = 25;
+
+// Outside 1968-01-20 03:14:08 to 2104-02-26 09:42:23, fractions included.
+pub const OUTSIDE_WINDOW: u8 = 26;
+
+// Field to write too large (LI over 3, VN or mode over 7).
+pub const FIELD_TOO_LARGE: u8 = 27;
+
+// Tick zero or above 2^32.
+pub const TICK_OUT_OF_RANGE: u8 = 28;
+
+// Record handed in not legal.
+pub const RECORD_NOT_LEGAL: u8 = 29;
+
+// Replay line malformed.
+pub const LINE_MALFORMED: u8 = 64;
+
+// All of them, in the order of document 01's table.
+pub fn numbers() -> [u8; 30]
+    ensures { λ r. ⌜ r ≡ numbers ⌝ }
+{
+    [
+        BUFFER_TOO_SHORT,
+        VERSION_UNSUPPORTED,
+        OWN_CLOCK_ZERO,
+        CLIENT_STOPPED,
+        ALREADY_WAITING,
+        ASKED_TOO_SOON,
+        PACKET_LENGTH_WRONG,
+        NOT_WAITING,
+        ORIGINATE_MISMATCH,
+        REPLY_MODE_WRONG,
+        VERSION_MISMATCH,
+        SERVER_UNSYNCHRONISED,
+        STRATUM_TOO_HIGH,
+        SERVER_TIMESTAMP_ZERO,
+        ARRIVED_BEFORE_SENT,
+        ARRIVED_TOO_LATE,
+        ANSWERED_BEFORE_RECEIVED,
+        DELAY_NEGATIVE,
+        DIFFERENCE_OUT_OF_RANGE,
+        GAVE_UP_TOO_SOON,
+        REQUEST_MODE_WRONG,
+        REQUEST_VERSION_UNSUPPORTED,
+        SETTINGS_OUT_OF_RANGE,
+        TIMESTAMP_ZERO,
+        NO_SUCH_DATE,
+        OUTSIDE_WINDOW,
+        FIELD_TOO_LARGE,
+        TICK_OUT_OF_RANGE,
+        RECORD_NOT_LEGAL,
+        LINE_MALFORMED,
+    ]
+}
+
+// Tests in order are written a line a test, `let n = or_else(n, test, NUMBER);`, from 0 on: the first that holds gives its number. Every test is
+// evaluated, so each must be total.
+pub fn or_else(sofar: u8, test: bool, number: u8) -> u8
+    ensures { λ r. ⌜ r ≡ orElse sofar test number ⌝ }
+{
+    if sofar != 0 {
+        return sofar;
+    }
+    if test { number } else { 0 }
+}
+
+// Low to high, both included.
+pub fn between(low: u8, high: u8, n: u8) -> bool
+    ensures { λ r. ⌜ r ≡ between low high n ⌝ }
+{
+    (low <= n) & (n <= high)
+}
