@@ -1,0 +1,60 @@
+-- The offset, the half and the delay of four timestamps: T1 sent, T2 received, T3 answered, T4 arrived (document 01, "Timestamps and their differences").
+use Prim.Native.Nat.{ℕ, suc, _/_, _^_}
+use mathlib.Core.Bool.{Bool, not, _||_}
+use lib.IntN.{ℤ, pos, negsuc, negℤ, _+ℤ_, _-ℤ_}
+use lib.Signed.{ltZ}
+use Rattle.numbers.specs.Modulo.{_modulo_}
+use Rattle.refusals.specs.Numbers.{arrived-before-sent, arrived-too-late, answered-before-received, delay-negative, difference-out-of-range}
+use Rattle.refusals.specs.Tests.{Tests, _if_else_, otherwise, answer}
+use Rattle.timestamp.specs.declared.Timestamp.{Timestamp}
+use Rattle.timestamp.specs.Timestamp.{constants, _⊖_, negative}
+use Rattle.offset.specs.declared.Halves.{Halves}
+use Rattle.offset.specs.declared.OffsetAnswer.{OffsetAnswer}
+use Rattle.offset.specs.declared.OffsetAnswer.the-variants.{Refused, Measured}
+
+-- the greatest whole number not above sum / 2; `negsuc a` is -(a + 1), and half of it, rounded down, is -(a / 2 + 1)
+unfoldable pub floorHalf : ℤ → ℤ
+floorHalf (pos a) = pos (a / 2)
+floorHalf (negsuc a) = negℤ (pos (suc (a / 2)))
+
+-- document 01's half: what is left of the sum, 0 or 1
+unfoldable pub halfOf : ℤ → ℕ
+halfOf sum = sum modulo 2
+
+unfoldable pub halves : ℤ → Halves
+halves sum = record { offset = floorHalf sum; half = halfOf sum }
+
+-- not in -2^62 to 2^62 - 1
+unfoldable pub outOfRange : ℤ → Bool
+outOfRange z = ltZ z (negℤ (pos (2 ^ 62))) || not (ltZ z (pos (2 ^ 62)))
+
+-- the tests in order, of T4 - T1, T3 - T2, the first difference P and the second difference Q; the delay d is (T4 - T1) - (T3 - T2)
+unfoldable pub offsetTests : ℤ → ℤ → ℤ → ℤ → Tests OffsetAnswer
+offsetTests trip hold p q =
+    arrived-before-sent if negative trip else
+    arrived-too-late if ltZ (constants .limit) trip else
+    answered-before-received if negative hold else
+    delay-negative if negative (trip -ℤ hold) else
+    difference-out-of-range if outOfRange p || outOfRange q else
+    otherwise (Measured (floorHalf (p +ℤ q)) (halfOf (p +ℤ q)) (trip -ℤ hold))
+
+-- document 01's first difference P = T2 - T1, second difference Q = T3 - T4
+unfoldable pub measured : (t1 t2 t3 t4 : Timestamp) → OffsetAnswer
+measured t1 t2 t3 t4 = answer Refused (offsetTests (t4 ⊖ t1) (t3 ⊖ t2) (t2 ⊖ t1) (t3 ⊖ t4))
+
+-- document 01's number and values of an answer; what is not named is zero
+abbrev pub numberIn : OffsetAnswer → ℕ
+numberIn (Refused n) = n
+numberIn (Measured offset half delay) = 0
+
+abbrev pub offsetIn : OffsetAnswer → ℤ
+offsetIn (Refused n) = pos 0
+offsetIn (Measured offset half delay) = offset
+
+abbrev pub halfIn : OffsetAnswer → ℕ
+halfIn (Refused n) = 0
+halfIn (Measured offset half delay) = half
+
+abbrev pub delayIn : OffsetAnswer → ℤ
+delayIn (Refused n) = pos 0
+delayIn (Measured offset half delay) = delay
