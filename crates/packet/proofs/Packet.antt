@@ -1,0 +1,48 @@
+-- Laws of the stores that write a packet, and of what writing gives where it does not refuse. Assumes nothing.
+use Prim.Native.Nat.{ℕ, _+_, _/_, _%_, _^_, _≤_}
+use native.Mathlib.Nat.{zero-add}
+use mathlib.Core.Path.{_≡_, sym, _∙_}
+use mathlib.Core.Bool.{Bool, true, false, _||_}
+use mathlib.Core.List.{List, _++_, reverse, reverse-append}
+use borrow.Author.Tests.{le-ltb, ltb-false}
+use lib.Dec.{ltb}
+use lib.ListN.{length, drop, length-append, length-reverse}
+use lib.Seq.{sets, sets-eq}
+use Rattle.numbers.specs.Octets.{octets}
+use Rattle.numbers.proofs.Octets.{length-octets, octets-add, octets-mod, sets-append}
+use Rattle.packet.specs.declared.Fields.{Fields}
+use Rattle.packet.specs.Packet.{octetsOf, tooLarge, writeNumber, written}
+
+-- the m + n octets of y in reverse order are stored by the lower n and then the higher m
+pub sets-halves : (m n : ℕ) (l : List ℕ) (at y : ℕ)
+    → sets (sets l at (reverse (octets n (y % 256 ^ n)))) (at + n) (reverse (octets m (y / 256 ^ n))) ≡ sets l at (reverse (octets (m + n) y))
+sets-halves m n l at y =
+    rw (octets-mod, octets-add, reverse-append, sets-append, length-reverse, length-octets n y)
+
+pub length-octetsOf : (f : Fields) → length (octetsOf f) ≡ 48
+unfolding octetsOf
+length-octetsOf f = simp (length-append, length-octets)
+
+none : (a b c : Bool) → a || b || c ≡ false → (a ≡ false) × (b ≡ false) × (c ≡ false)
+none true b c e = (cc, cc, cc)
+none false true c e = (cc, cc, cc)
+none false false c e = (cc, cc, e)
+
+-- the fields of octet 0, where none is too large
+pub bounded : (f : Fields) → tooLarge f ≡ false → (f .leap ≤ 3) × (f .version ≤ 7) × (f .mode ≤ 7)
+bounded f e =
+    let n = none (ltb 3 (f .leap)) (ltb 7 (f .version)) (ltb 7 (f .mode)) e in
+    (ltb-false _ _ (n .0), ltb-false _ _ (n .1), ltb-false _ _ (n .2))
+
+-- writing that is not refused
+module _ (b : List ℕ) (f : Fields) (long : 48 ≤ length b) (small : tooLarge f ≡ false) where
+  pub number-written : writeNumber b f ≡ 0
+  number-written = rw (le-ltb (length b) 48 long, small)
+
+  pub octets-written : written b f ≡ octetsOf f ++ drop 48 b
+  octets-written = rw (le-ltb (length b) 48 long, small)
+
+  pub stored : sets b 0 (octetsOf f) ≡ written b f
+  stored =
+      let l = length-octetsOf f in
+      sets-eq (octetsOf f) b 0 (rw (l, zero-add) long) ∙ (rw (zero-add, l)) ∙ sym octets-written

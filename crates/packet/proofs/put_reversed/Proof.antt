@@ -1,0 +1,22 @@
+-- `packet::put_reversed` meets its contract: the octets that it stores are the remainders by 256, the lowest first. Assumes nothing.
+use native.Mathlib.Nat.{div-one}
+use Rattle.numbers.specs.Octets.{octets}
+use borrow.Author.Needs.{needs}
+use Rattle.packet.proofs.put_reversed.Statement.{statement}
+use Rattle.packet.proofs.put_reversed.Tie as tie
+
+returns : tie.Need-returns
+unfolding octets
+returns c = rw (c .before .before .put-four .ensures, div-one)
+
+pub put-reversed-spec : {M : Type 1} → statement M
+put-reversed-spec =
+    tie.close
+    (tie.spec
+    (λ c. search needs)
+    (λ c. search needs)
+    (λ c. search needs)
+    (λ c. search needs)
+    (λ c κs. search needs)
+    (λ c. search needs)
+    returns)

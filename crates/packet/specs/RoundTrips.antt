@@ -1,0 +1,41 @@
+-- Reading and writing a packet undo each other: stated of the definitions that the contracts of `read` and `write` cite.
+use Prim.Native.Nat.{ℕ, _^_, _≤_, _<_}
+use mathlib.Core.Path.{_≡_}
+use mathlib.Core.Bool.{false}
+use mathlib.Core.List.{List, _++_}
+use lib.ListN.{length, take, drop}
+use Rattle.numbers.specs.TwosComplement.{Fits}
+use Rattle.numbers.specs.Octets.{AreOctets}
+use Rattle.refusals.specs.Tests.{number}
+use Rattle.packet.specs.declared.Fields.{Fields}
+use Rattle.packet.specs.declared.FieldsAnswer.{FieldsAnswer}
+use Rattle.packet.specs.Packet.{readTests, readAnswer, numberIn, tooLarge, writeNumber, written}
+
+-- fields that writing does not refuse, each a value of its type
+pub record Legal (f : Fields) : Type 0 where
+  pub small : tooLarge f ≡ false
+  pub stratum : f .stratum < 2 ^ 8
+  pub poll : f .poll < 2 ^ 8
+  pub precision : Fits 8 (f .precision)
+  pub «root_delay» : Fits 32 (f .«root_delay»)
+  pub «root_dispersion» : f .«root_dispersion» < 2 ^ 32
+  pub identifier : f .identifier < 2 ^ 32
+  pub reference : f .reference .0 < 2 ^ 64
+  pub originate : f .originate .0 < 2 ^ 64
+  pub receive : f .receive .0 < 2 ^ 64
+  pub transmit : f .transmit .0 < 2 ^ 64
+
+pub record RoundTrips : Type 0 where
+  -- octets that are read into fields are written back the same
+  pub octets-back : (p b : List ℕ) (f : Fields) → AreOctets p → readAnswer p ≡ FieldsAnswer.Fields f → 48 ≤ length b
+      → (writeNumber b f ≡ 0) × (written b f ≡ take 48 p ++ drop 48 b)
+  -- legal fields that are written are read back the same
+  pub fields-back : (b : List ℕ) (f : Fields) → Legal f → 48 ≤ length b
+      → (writeNumber b f ≡ 0) × (readAnswer (take 48 (written b f)) ≡ FieldsAnswer.Fields f)
+  -- reading depends on the length and the first 48 octets alone: an authenticator is not read
+  pub first-48-read : (p q : List ℕ) → length p ≡ length q → take 48 p ≡ take 48 q → readAnswer p ≡ readAnswer q
+  -- the number that reading gives the caller is the one of its tests
+  pub number-read : (p : List ℕ) → numberIn (readAnswer p) ≡ number (readTests p)
+  -- writing leaves the octets past the 48th, and the length, as they were
+  pub rest-kept : (b : List ℕ) (f : Fields) → drop 48 (written b f) ≡ drop 48 b
+  pub length-kept : (b : List ℕ) (f : Fields) → length (written b f) ≡ length b

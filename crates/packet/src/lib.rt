@@ -1,0 +1,200 @@
+// The fields of a packet, read from its octets and written into a buffer.
+ghost use mathlib.Core.Path.{_≡_};
+ghost use Prim.Native.Nat.{_+_, _*_, _≤_};
+ghost use mathlib.Core.Bool.{false};
+ghost use mathlib.Core.List.{[], _∷_, _++_, reverse};
+ghost use lib.ListN.{length};
+ghost use lib.Seq.{sets};
+ghost use Rattle.numbers.specs.Octets.{bigEndian, octets, part};
+ghost use Rattle.packet.specs.Packet.{fieldsOf, octetsOf, tooLarge, readAnswer, writeNumber, written};
+use timestamp::Timestamp;
+
+// `leap` is LI and `version` VN; root delay and root dispersion have 16 fraction bits.
+pub struct Fields {
+    pub leap: u8,
+    pub version: u8,
+    pub mode: u8,
+    pub stratum: u8,
+    pub poll: u8,
+    pub precision: i8,
+    pub root_delay: i32,
+    pub root_dispersion: u32,
+    pub identifier: u32,
+    pub reference: Timestamp,
+    pub originate: Timestamp,
+    pub receive: Timestamp,
+    pub transmit: Timestamp,
+}
+
+// What reading a packet answers.
+pub enum FieldsAnswer {
+    Refused(u8),
+    Fields(Fields),
+}
+
+// The number of the four octets from index at on. Joined from the lowest octet up and then reversed, the four loads are compiled to one.
+fn number32(p: &[u8], at: usize) -> u32
+    requires { ⌜ at + 4 ≤ length (now p) ⌝ }
+    ensures { λ r. ⌜ r ≡ bigEndian (part at 4 (now (p .entry))) ⌝ }
+{
+    octets::reversed32(octets::join32(p[at + 3], p[at + 2], p[at + 1], p[at]))
+}
+
+// The number of the eight octets from index at on.
+fn number64(p: &[u8], at: usize) -> u64
+    requires { ⌜ at + 8 ≤ length (now p) ⌝ }
+    ensures { λ r. ⌜ r ≡ bigEndian (part at 8 (now (p .entry))) ⌝ }
+{
+    octets::join64(number32(p, at), number32(p, at + 4))
+}
+
+// The fields of a packet that has at least 48 octets.
+fn read_fields(p: &[u8]) -> Fields
+    requires { ⌜ 48 ≤ length (now p) ⌝ }
+    ensures { λ r. ⌜ r ≡ fieldsOf (now (p .entry)) ⌝ }
+{
+    Fields {
+        leap: p[0] / 64,
+        version: p[0] / 8 % 8,
+        mode: p[0] % 8,
+        stratum: p[1],
+        poll: p[2],
+        precision: octets::signed8(p[3]),
+        root_delay: octets::signed32(number32(p, 4)),
+        root_dispersion: number32(p, 8),
+        identifier: number32(p, 12),
+        reference: Timestamp(number64(p, 16)),
+        originate: Timestamp(number64(p, 24)),
+        receive: Timestamp(number64(p, 32)),
+        transmit: Timestamp(number64(p, 40)),
+    }
+}
+
+// Reads a packet of 48 octets, or of 68 with an authenticator that is not read.
+pub fn read(packet: &[u8]) -> FieldsAnswer
+    ensures { λ r. ⌜ r ≡ readAnswer (now (packet .entry)) ⌝ }
+{
+    if packet.len() == 48 || packet.len() == 68 {
+        return FieldsAnswer::Fields(read_fields(packet));
+    }
+    FieldsAnswer::Refused(refusals::PACKET_LENGTH_WRONG)
+}
+
+// Stores four octets from index at on.
+fn put_four(b: &mut [u8], at: usize, x0: u8, x1: u8, x2: u8, x3: u8)
+    requires { ⌜ at + 4 ≤ length (now b) ⌝ }
+    ensures { λ _. ⌜ now (b .exit) ≡ sets (now (b .entry)) at (x0 ∷ x1 ∷ x2 ∷ x3 ∷ []) ⌝ }
+{
+    b[at] = x0;
+    b[at + 1] = x1;
+    b[at + 2] = x2;
+    b[at + 3] = x3;
+}
+
+// Stores the four octets of x from index at on, the lowest first: the four stores are compiled to one.
+fn put_reversed(b: &mut [u8], at: usize, x: u32)
+    requires { ⌜ at + 4 ≤ length (now b) ⌝ }
+    ensures { λ _. ⌜ now (b .exit) ≡ sets (now (b .entry)) at (reverse (octets 4 x)) ⌝ }
+{
+    put_four(
+        b,
+        at,
+        (x % 256) as u8,
+        (x / 256 % 256) as u8,
+        (x / 65536 % 256) as u8,
+        (x / 16777216 % 256) as u8,
+    );
+}
+
+// Stores the four octets of x from index at on.
+fn put32(b: &mut [u8], at: usize, x: u32)
+    requires { ⌜ at + 4 ≤ length (now b) ⌝ }
+    ensures { λ _. ⌜ now (b .exit) ≡ sets (now (b .entry)) at (octets 4 x) ⌝ }
+{
+    put_reversed(b, at, octets::reversed32(x));
+}
+
+// Stores the eight octets of x from index at on.
+fn put64(b: &mut [u8], at: usize, x: u64)
+    requires { ⌜ at + 8 ≤ length (now b) ⌝ }
+    ensures { λ _. ⌜ now (b .exit) ≡ sets (now (b .entry)) at (octets 8 x) ⌝ }
+{
+    let y = octets::reversed64(x);
+    put_reversed(b, at, (y % 4294967296) as u32);
+    put_reversed(b, at + 4, (y / 4294967296) as u32);
+}
+
+// Stores the octets of four timestamps from index at on.
+fn put_timestamps(
+    b: &mut [u8],
+    at: usize,
+    t0: Timestamp,
+    t1: Timestamp,
+    t2: Timestamp,
+    t3: Timestamp,
+)
+    requires { ⌜ at + 32 ≤ length (now b) ⌝ }
+    ensures { λ _. ⌜ now (b .exit) ≡ sets (now (b .entry)) at (octets 8 (t0 .0) ++ octets 8 (t1 .0) ++ octets 8 (t2 .0) ++ octets 8 (t3 .0)) ⌝ }
+{
+    put64(b, at, t0.0);
+    put64(b, at + 8, t1.0);
+    put64(b, at + 16, t2.0);
+    put64(b, at + 24, t3.0);
+}
+
+// A field is too large to write.
+fn too_large(fields: Fields) -> bool
+    ensures { λ r. ⌜ r ≡ tooLarge fields ⌝ }
+{
+    3 < fields.leap || 7 < fields.version || 7 < fields.mode
+}
+
+// Octet 0.
+fn first_octet(leap: u8, version: u8, mode: u8) -> u8
+    requires { ⌜ (leap ≤ 3) × (version ≤ 7) × (mode ≤ 7) ⌝ }
+    ensures { λ r. ⌜ r ≡ leap * 64 + version * 8 + mode ⌝ }
+{
+    leap * 64 + version * 8 + mode
+}
+
+// Stores the 48 octets of fields that are not too large.
+fn put_fields(b: &mut [u8], fields: Fields)
+    requires { ⌜ 48 ≤ length (now b) ⌝ }
+    requires { ⌜ tooLarge fields ≡ false ⌝ }
+    ensures { λ _. ⌜ now (b .exit) ≡ sets (now (b .entry)) 0 (octetsOf fields) ⌝ }
+{
+    put_four(
+        b,
+        0,
+        first_octet(fields.leap, fields.version, fields.mode),
+        fields.stratum,
+        fields.poll,
+        octets::bits8(fields.precision),
+    );
+    put32(b, 4, octets::bits32(fields.root_delay));
+    put32(b, 8, fields.root_dispersion);
+    put32(b, 12, fields.identifier);
+    put_timestamps(
+        b,
+        16,
+        fields.reference,
+        fields.originate,
+        fields.receive,
+        fields.transmit,
+    );
+}
+
+// Writes the fields into the first 48 octets of the buffer and returns 0, or the number of a refusal.
+pub fn write(buffer: &mut [u8], fields: Fields) -> u8
+    ensures { λ r. ⌜ r ≡ writeNumber (now (buffer .entry)) fields ⌝ }
+    ensures { λ _. ⌜ now (buffer .exit) ≡ written (now (buffer .entry)) fields ⌝ }
+{
+    if buffer.len() < 48 {
+        return refusals::BUFFER_TOO_SHORT;
+    }
+    if too_large(fields) {
+        return refusals::FIELD_TOO_LARGE;
+    }
+    put_fields(buffer, fields);
+    0
+}
