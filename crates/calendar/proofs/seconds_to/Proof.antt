@@ -1,0 +1,9 @@
+-- `calendar::seconds_to` meets its contract: what the calls ensure, joined. Assumes nothing.
+use borrow.Author.Needs.{needs}
+use Rattle.calendar.specs.Dates.{secondsTo, daysTo}
+use Rattle.calendar.proofs.seconds_to.Statement.{statement}
+use Rattle.calendar.proofs.seconds_to.Tie as tie
+
+pub seconds-to-spec : {M : Type 1} → statement M
+seconds-to-spec =
+    tie.close (tie.spec (λ c. search needs) (λ c. search needs) (λ c. search needs) (λ c. search needs) (λ c. search needs) (λ c. search needs) (λ c. search needs) (λ c. search needs) (λ c. search needs) (λ c. search needs) (λ c. search needs) (λ c. search needs) (λ c. search needs) (λ c. search needs) (λ c. search needs) (λ c. search needs) (λ c. search needs) (λ c. search needs) (λ c. unfold secondsTo daysTo in cc))

@@ -1,0 +1,4 @@
+pub mod Gregorian
+pub mod Dates
+pub mod Calendar
+pub mod OneToOne

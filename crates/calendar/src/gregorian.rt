@@ -1,0 +1,85 @@
+// Years and months of the Gregorian calendar, each worked out directly. `leap` is the number of leap days of a year, 0 or 1.
+ghost use mathlib.Core.Path.{_≡_};
+ghost use Prim.Native.Nat.{_+_, _*_, _^_, _≤_, _<_};
+ghost use Rattle.calendar.specs.Gregorian.{leapDays, yearDays, monthDays, before, last};
+ghost use Rattle.calendar.specs.Dates.{yearOn};
+
+pub(crate) fn leap_days(year: u64) -> u64
+    ensures { λ r. ⌜ (r ≡ leapDays year) × (r < 2) ⌝ }
+{
+    if year % 4 != 0 {
+        return 0;
+    }
+    if year % 100 != 0 {
+        return 1;
+    }
+    if year % 400 == 0 { 1 } else { 0 }
+}
+
+// The days from the start of the year 0 to the start of a year: of the years before it those that 4 divides have a leap day,
+// without those that 100 divides, with those that 400 divides.
+pub(crate) fn days_before_year(year: u64) -> u64
+    requires { ⌜ year < 2 ^ 33 ⌝ }
+    ensures { λ r. ⌜ (r ≡ before yearDays year) × (r ≤ 366 * year + 2) ⌝ }
+{
+    365 * year + (year + 3) / 4 + (year + 399) / 400 - (year + 99) / 100
+}
+
+// The year of the day n after the start of the year 0. 1461 days are four years with a leap day, a little over four mean years,
+// so between these days the estimate is the year or the one before it.
+pub(crate) fn year_on(n: u64) -> u64
+    requires { ⌜ (146000 ≤ n) × (n < 768600) ⌝ }
+    ensures { λ r. ⌜ (r ≡ yearOn n) × (r ≤ 2104) × (before yearDays r ≤ n) × (n < before yearDays r + (365 + leapDays r)) ⌝ }
+{
+    let year = 4 * n / 1461;
+    if days_before_year(year + 1) <= n {
+        year + 1
+    } else {
+        year
+    }
+}
+
+// The length of a month. Up to July and from August on 31 and 30 take turns, February aside.
+fn month_days(leap: u64, month: u64) -> u64
+    requires { ⌜ leap < 2 ⌝ }
+    ensures { λ r. ⌜ r ≡ monthDays leap month ⌝ }
+{
+    if 12 < month {
+        return 0;
+    }
+    if month == 0 {
+        return 0;
+    }
+    if month == 2 {
+        28 + leap
+    } else {
+        30 + (month + month / 8) % 2
+    }
+}
+
+pub(crate) fn days_in_month(year: u64, month: u64) -> u64
+    ensures { λ r. ⌜ r ≡ monthDays (leapDays year) month ⌝ }
+{
+    month_days(leap_days(year), month)
+}
+
+// The days of the year before a month: 367/12 a month, as if February had 30 days.
+pub(crate) fn days_before_month(leap: u64, month: u64) -> u64
+    requires { ⌜ (leap < 2) × (0 < month) × (month < 13) ⌝ }
+    ensures { λ r. ⌜ (r ≡ before (monthDays leap) month) × (r < 366) ⌝ }
+{
+    let n = (367 * month - 362) / 12;
+    if month <= 2 { n } else { n + leap - 2 }
+}
+
+// The month of the day k after the start of a year, by the same count.
+pub(crate) fn month_on(leap: u64, k: u64) -> u64
+    requires { ⌜ (leap < 2) × (k < 365 + leap) ⌝ }
+    ensures { λ r. ⌜ (r ≡ last (monthDays leap) k 12) × (0 < r) × (r < 13) × (before (monthDays leap) r ≤ k) × (k < before (monthDays leap) r + 31) ⌝ }
+{
+    if k < 59 + leap {
+        (12 * k + 373) / 367
+    } else {
+        (12 * (k + 2 - leap) + 373) / 367
+    }
+}

@@ -1,0 +1,30 @@
+-- The precision octet of a clock's tick (document 01, "The 48 octets"). "Tick" is document 01's term: the step of a clock, in units of 2^-32 s.
+use Prim.Native.Nat.{ℕ, zero, suc, _^_}
+use mathlib.Core.Bool.{cond, _||_}
+use lib.Dec.{eqb, leb, ltb}
+use lib.IntN.{ℤ, pos, _-ℤ_}
+use Rattle.refusals.specs.Numbers.{tick-out-of-range}
+use Rattle.refusals.specs.Tests.{_if_else_, otherwise, answer}
+use Rattle.precision.specs.declared.PrecisionAnswer.{PrecisionAnswer}
+use Rattle.precision.specs.declared.PrecisionAnswer.the-variants.{Refused, Precision}
+
+-- the least k up to n with tick ≤ 2 ^ k, and n where there is none
+unfoldable pub least : ℕ → ℕ → ℕ
+least tick zero = zero
+least tick (suc n) = cond (leb tick (2 ^ least tick n)) (least tick n) (suc n)
+
+-- the exponent of the smallest power of two not below the tick; 2 ^ k units are 2 ^ (k - 32) seconds
+unfoldable pub precisionOf : ℕ → PrecisionAnswer
+precisionOf tick =
+    answer Refused
+    (tick-out-of-range if eqb tick 0 || ltb (2 ^ 32) tick else
+    otherwise (Precision (pos (least tick 32) -ℤ pos 32)))
+
+-- document 01's number and value of an answer; a value that is not named is zero
+abbrev pub numberIn : PrecisionAnswer → ℕ
+numberIn (Refused n) = n
+numberIn (Precision p) = 0
+
+abbrev pub precisionIn : PrecisionAnswer → ℤ
+precisionIn (Refused n) = pos 0
+precisionIn (Precision p) = p
