@@ -3,7 +3,7 @@ use Prim.Native.Nat.{ℕ, _+_, _-_, _^_}
 use mathlib.Core.Bool.{Bool, cond, not, _&&_}
 use lib.Dec.{leb, ltb}
 use Rattle.refusals.specs.Numbers.{timestamp-zero, no-such-date, outside-window}
-use Rattle.refusals.specs.Tests.{_if_else_, otherwise, answer}
+use Rattle.refusals.specs.Tests.{Tests, _if_else_, otherwise, answer}
 use Rattle.timestamp.specs.declared.Timestamp.{Timestamp}
 use Rattle.timestamp.specs.Timestamp.{timestamp, fromSeconds, secondsOf, fractionOf, isZero}
 use Rattle.calendar.specs.Dates.{date, exists, secondsTo, dateAt}
@@ -29,11 +29,13 @@ unfoldable pub secondsAt : Timestamp → ℕ
 secondsAt t = cond (leb (2 ^ 31) (secondsOf t)) start1900 start2036 + secondsOf t
 
 -- The date of a timestamp.
+abbrev pub dateTests : Timestamp → Tests DateAnswer
+dateTests t =
+    timestamp-zero if isZero t else
+    otherwise (DateAnswer.Date (dateAt (secondsAt t) (fractionOf t)))
+
 unfoldable pub dateOf : Timestamp → DateAnswer
-dateOf t =
-    answer DateAnswer.Refused
-    (timestamp-zero if isZero t else
-    otherwise (DateAnswer.Date (dateAt (secondsAt t) (fractionOf t))))
+dateOf t = answer DateAnswer.Refused (dateTests t)
 
 -- the second s is in the window, fractions included
 unfoldable pub inWindow : ℕ → Bool
@@ -48,13 +50,15 @@ abbrev pub timestampAt : Date → Timestamp
 timestampAt d = fromSeconds (eraSeconds (secondsTo d)) (d .fraction)
 
 -- The timestamp of a date.
-unfoldable pub timestampOf : Date → TimestampAnswer
-timestampOf d =
-    answer TimestampAnswer.Refused
-    (no-such-date if not (exists d) else
+abbrev pub timestampTests : Date → Tests TimestampAnswer
+timestampTests d =
+    no-such-date if not (exists d) else
     outside-window if not (inWindow (secondsTo d)) else
     timestamp-zero if isZero (timestampAt d) else
-    otherwise (TimestampAnswer.Timestamp (timestampAt d)))
+    otherwise (TimestampAnswer.Timestamp (timestampAt d))
+
+unfoldable pub timestampOf : Date → TimestampAnswer
+timestampOf d = answer TimestampAnswer.Refused (timestampTests d)
 
 -- document 01's number and value of each answer; a value that is not named is zero
 abbrev pub numberInDate : DateAnswer → ℕ

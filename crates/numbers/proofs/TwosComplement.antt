@@ -1,17 +1,16 @@
 -- Laws of two's complement and of differences, over the width.
-use mathlib.Core.Path.{_≡_, refl, sym, ap, _∙_}
-use mathlib.Core.Bool.{Bool, true, false, cond, not}
-use Prim.Native.Nat.{ℕ, zero, suc, _+_, _-_, _*_, _/_, _%_, _^_, _<_, _≤_}
+use mathlib.Core.Path.{_≡_, refl, ap}
+use mathlib.Core.Bool.{Bool, true, false, cond}
+use Prim.Native.Nat.{ℕ, zero, suc, _+_, _-_, _/_, _%_, _^_, _<_, _≤_}
 use native.Mathlib.Nat.{pow-suc, div-add-mod}
 use native.Mathlib.Omega.{arith}
 use borrow.Author.Tests.{ltb-true, ltb-false, lt-ltb, le-ltb}
 use lib.Pow.{pow-pos}
 use lib.Dec.{ltb}
-use lib.IntN.{ℤ, pos, negsuc, negℤ, _-ℤ_}
-use lib.Signed.{_≤ℤ_, _<ℤ_}
+use lib.IntN.{ℤ, pos, _-ℤ_}
 use Rattle.numbers.specs.Modulo.{_modulo_}
 use Rattle.numbers.specs.TwosComplement.{signed, bits, Fits, difference}
-use Rattle.numbers.proofs.Whole.{up, dn, whole, whole-eq, eq-whole, minus, neg}
+use Rattle.numbers.proofs.Whole.{up, dn, whole, whole-eq, minus, neg}
 use Rattle.numbers.proofs.Modulo.{modulo-below, Congruent, residue, near, modulo-is}
 
 -- half of the 2^k numbers

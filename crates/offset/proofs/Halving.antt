@@ -1,16 +1,16 @@
 -- The laws of halving, and halving as the code does it.
-use mathlib.Core.Path.{_≡_, refl, ap, _∙_}
-use Prim.Native.Nat.{ℕ, suc, _+_, _-_, _/_, _%_, _^_, _≤_, _<_}
+use mathlib.Core.Path.{_≡_, refl}
+use Prim.Native.Nat.{_+_, _-_, _%_, _^_, _<_}
 use native.Mathlib.Omega.{arith}
 use lib.Bits.{bitAnd, and-mask}
-use lib.IntN.{ℤ, pos, negsuc, _+ℤ_}
+use lib.IntN.{ℤ, pos, negsuc}
 use lib.Signed.{mag, shrZ, mag-shr}
 use mir.Syntax.{w64}
 use mir.Val.{SFits, toZ, ofZ}
 use mir.ValLaws.{sfits-le}
 use mir.Facts.{toZ-pos, toZ-ofZ}
 use Rattle.numbers.specs.Modulo.{_modulo_}
-use Rattle.numbers.proofs.Whole.{up, dn, whole, whole-eq, sum}
+use Rattle.numbers.proofs.Whole.{up, dn, whole, sum}
 use Rattle.numbers.proofs.Modulo.{modulo-below}
 use Rattle.numbers.proofs.Machine.{held}
 use Rattle.offset.specs.Offset.{floorHalf, halfOf}

@@ -1,17 +1,16 @@
 -- Laws behind the code of the tests: a comparison stands for the sign of a difference, and where no test holds the sums fit.
-use mathlib.Core.Path.{_≡_, refl, subst}
-use mathlib.Core.Bool.{Bool, true, false, not, _||_}
-use Prim.Native.Nat.{ℕ, _^_}
+use mathlib.Core.Path.{_≡_, refl}
+use mathlib.Core.Bool.{Bool, true, false, not}
+use Prim.Native.Nat.{_^_}
 use native.Mathlib.Omega.{arith}
-use lib.Dec.{T}
 use lib.IntN.{ℤ, pos, negℤ, _+ℤ_, _-ℤ_}
 use lib.Signed.{ltZ}
 use mir.Syntax.{w64}
 use mir.Val.{SFits}
 use mir.Facts.{or-no, T-not-not}
-use Rattle.numbers.proofs.Whole.{whole, sum, minus, neg, nlt-whole, test-whole}
+use Rattle.numbers.proofs.Whole.{whole, sum, minus, neg, test-whole}
 use Rattle.numbers.proofs.Machine.{is-true, is-false, flags, fits-whole}
-use Rattle.refusals.specs.Tests.{Tests, number}
+use Rattle.refusals.specs.Tests.{number}
 use Rattle.refusals.proofs.Tests.{Passes, passed}
 use Rattle.offset.specs.Offset.{outOfRange, offsetTests}
 

@@ -1,7 +1,7 @@
 -- Laws of the stores that write a packet, and of what writing gives where it does not refuse. Assumes nothing.
 use Prim.Native.Nat.{ℕ, _+_, _/_, _%_, _^_, _≤_}
 use native.Mathlib.Nat.{zero-add}
-use mathlib.Core.Path.{_≡_, sym, _∙_}
+use mathlib.Core.Path.{_≡_, refl, sym, _∙_}
 use mathlib.Core.Bool.{Bool, true, false, _||_}
 use mathlib.Core.List.{List, _++_, reverse, reverse-append}
 use borrow.Author.Tests.{le-ltb, ltb-false}
@@ -10,8 +10,11 @@ use lib.ListN.{length, drop, length-append, length-reverse}
 use lib.Seq.{sets, sets-eq}
 use Rattle.numbers.specs.Octets.{octets}
 use Rattle.numbers.proofs.Octets.{length-octets, octets-add, octets-mod, sets-append}
+use Rattle.refusals.specs.Numbers.{packet-length-wrong}
+use Rattle.refusals.specs.Tests.{_if_else_, otherwise, answer}
 use Rattle.packet.specs.declared.Fields.{Fields}
-use Rattle.packet.specs.Packet.{octetsOf, tooLarge, writeNumber, written}
+use Rattle.packet.specs.declared.FieldsAnswer.{FieldsAnswer}
+use Rattle.packet.specs.Packet.{fieldsOf, octetsOf, wrongLength, readAnswer, tooLarge, writeNumber, written}
 
 -- the m + n octets of y in reverse order are stored by the lower n and then the higher m
 pub sets-halves : (m n : ℕ) (l : List ℕ) (at y : ℕ)
@@ -46,3 +49,18 @@ module _ (b : List ℕ) (f : Fields) (long : 48 ≤ length b) (small : tooLarge 
   stored =
       let l = length-octetsOf f in
       sets-eq (octetsOf f) b 0 (rw (l, zero-add) long) ∙ (rw (zero-add, l)) ∙ sym octets-written
+
+-- ---- what the answer of reading tells of the packet
+
+by-length : (wrong : Bool) (f : Fields) (P : Bool → FieldsAnswer → Type 0) → P true (FieldsAnswer.Refused packet-length-wrong) → P false (FieldsAnswer.Fields f)
+    → P wrong (answer FieldsAnswer.Refused (packet-length-wrong if wrong else otherwise (FieldsAnswer.Fields f)))
+by-length true f P x y = x
+by-length false f P x y = y
+
+pub read-refused : (p : List ℕ) {n : ℕ} → readAnswer p ≡ FieldsAnswer.Refused n → (wrongLength p ≡ true) × (packet-length-wrong ≡ n)
+read-refused p {n} =
+    by-length (wrongLength p) (fieldsOf p) (λ b a. a ≡ FieldsAnswer.Refused n → (b ≡ true) × (packet-length-wrong ≡ n)) (λ e. (refl, (cc))) (λ e. ((cc), (cc)))
+
+pub read-fields : (p : List ℕ) {f : Fields} → readAnswer p ≡ FieldsAnswer.Fields f → (wrongLength p ≡ false) × (fieldsOf p ≡ f)
+read-fields p {f} =
+    by-length (wrongLength p) (fieldsOf p) (λ b a. a ≡ FieldsAnswer.Fields f → (b ≡ false) × (fieldsOf p ≡ f)) (λ e. ((cc), (cc))) (λ e. (refl, (cc)))

@@ -2,11 +2,12 @@
 use mathlib.Core.Path.{_≡_, refl, sym, ap, _∙_, subst}
 use Prim.Native.Nat.{ℕ, zero, suc}
 use native.Mathlib.Omega.{arith}
-use mathlib.Core.Bool.{Bool, true, false, not, cond, _&&_}
+use mathlib.Core.Bool.{Bool, true, false, not, cond, _&&_, _||_}
+use mathlib.Core.Logic.{_↔_}
 use borrow.Author.Tests.{ne-eqb}
 use lib.Dec.{T, eqb, ltb, ltb→lt}
 use mir.Facts.{and-yes}
-use Rattle.refusals.specs.Tests.{Tests, _if_else_, _when_else_, otherwise, Given, refused, answered, given, number, answer, answerOf, kept, keptOf, carry, orElse}
+use Rattle.refusals.specs.Tests.{Tests, _if_else_, _when_else_, otherwise, Given, refused, answered, given, numberOf, number, answer, answerOf, kept, keptOf, carry, orElse}
 
 module _ {A : Type 0} where
   -- the row k is the first whose test holds; the last row, `otherwise`, has none to fail
@@ -70,6 +71,9 @@ module _ {A : Type 0} where
   passes (a when true else rest) p = absurd (p .0)
   passes (a when false else rest) p = passes rest (p .1)
   passes (otherwise a) p = refl
+
+  pub passes-number : (t : Tests A) → Passes t → number t ≡ 0
+  passes-number t p = ap numberOf (passes t p)
 
   -- after a refusal state and buffers stay, and the caller sees its number
   pub kept-refused : {B : Type 0} (t : Tests A) (n : ℕ) (old new : B) → given t ≡ refused n → kept t old new ≡ old
@@ -183,3 +187,49 @@ module _ {A B : Type 0} where
   before-passed (n if false else rest) then l e = before-passed rest then (and-yes (ltb 0 n) (plain rest) l .1) e
   before-passed (a when b else rest) then l e = absurd l
   before-passed (otherwise a) then l e = refl
+
+-- ---- what the caller sees: r says a refusal to the caller, and g is what is shown of an answer
+
+module _ {A : Type 0} where
+  -- every answer of the table has the property P
+  abbrev pub Each : (A → Type 0) → Tests A → Type 0
+  Each P (n if b else rest) = Each P rest
+  Each P (a when b else rest) = P a × Each P rest
+  Each P (otherwise a) = P a
+
+  -- no number of the table is 0
+  abbrev pub nonzero : Tests A → Bool
+  nonzero = numbered (ltb 0)
+
+  -- the number shown is the table's
+  pub number-shown : (of : A → ℕ) (say : ℕ → A) → ((k : ℕ) → of (say k) ≡ k) → (t : Tests A) → Each (λ a. of a ≡ 0) t → of (answer say t) ≡ number t
+  number-shown of say s (m if true else rest) e = s m
+  number-shown of say s (m if false else rest) e = number-shown of say s rest e
+  number-shown of say s (a when true else rest) e = e .0
+  number-shown of say s (a when false else rest) e = number-shown of say s rest (e .1)
+  number-shown of say s (otherwise a) e = e
+
+  -- and is 0 or has the property p, where every number of the table has
+  pub number-known : (p : ℕ → Bool) (t : Tests A) → T (numbered p t) → T (eqb (number t) 0 || p (number t))
+  number-known p (m if true else rest) l = either (eqb m 0) (p m) (and-yes (p m) (numbered p rest) l .0)
+    where
+      either : (a b : Bool) → T b → T (a || b)
+      either true b h = tt
+      either false b h = h
+  number-known p (m if false else rest) l = number-known p rest (and-yes (p m) (numbered p rest) l .1)
+  number-known p (a when true else rest) l = tt
+  number-known p (a when false else rest) l = number-known p rest l
+  number-known p (otherwise a) l = tt
+
+module _ {A R : Type 0} (g : A → R) (r : ℕ → R) (of : R → ℕ) (told : (k : ℕ) → of (r k) ≡ k) (say : ℕ → A) (shown : (k : ℕ) → g (say k) ≡ r k) where
+  -- the caller is told a refusal by n exactly when n is the number of the first test that holds
+  pub refused-by : (t : Tests A) → T (nonzero t) → Each (λ a. (k : ℕ) → g a ≡ r k → ⊥) t → (n : ℕ) → (g (answer say t) ≡ r n) ↔ ((number t ≡ n) × (n ≡ 0 → ⊥))
+  refused-by (m if true else rest) l e n = (
+    λ q. let s : m ≡ n = sym (told m) ∙ ap of (sym (shown m) ∙ q) ∙ told n in
+        (s, λ z. omega (arith, ltb→lt 0 m (and-yes (ltb 0 m) (nonzero rest) l .0))),
+    λ f. shown m ∙ ap r (f .0),
+  )
+  refused-by (m if false else rest) l e n = refused-by rest (and-yes (ltb 0 m) (nonzero rest) l .1) e n
+  refused-by (a when true else rest) l e n = (λ q. absurd (e .0 n q), λ f. absurd (f .1 (sym (f .0))))
+  refused-by (a when false else rest) l e n = refused-by rest l (e .1) n
+  refused-by (otherwise a) l e n = (λ q. absurd (e n q), λ f. absurd (f .1 (sym (f .0))))

@@ -6,11 +6,12 @@ use Rattle.octets.proofs.Signs.{lower, upper}
 use Rattle.octets.proofs.signed32.Statement.{statement}
 use Rattle.octets.proofs.signed32.Tie as tie
 
-returns : tie.Need-returns
-returns c = lower w32 (c .before .args .x) (omega arith)
-
-returns-2 : tie.Need-returns-2
-returns-2 c = upper w32 (c .before .args .x) (omega arith)
-
 pub signed32-spec : {M : Type 1} → statement M
-signed32-spec = tie.close (tie.spec (λ c. search needs) (λ c. search needs) (λ c. search needs) returns returns-2)
+signed32-spec =
+    tie.close
+    (tie.spec
+    (λ c. search needs)
+    (λ c. search needs)
+    (λ c. search needs)
+    (λ c. lower w32 (c .before .args .x) (omega arith))
+    (λ c. upper w32 (c .before .args .x) (omega arith)))

@@ -6,11 +6,12 @@ use Rattle.octets.proofs.Signs.{lower, upper}
 use Rattle.octets.proofs.signed8.Statement.{statement}
 use Rattle.octets.proofs.signed8.Tie as tie
 
-returns : tie.Need-returns
-returns c = lower w8 (c .before .args .x) (omega arith)
-
-returns-2 : tie.Need-returns-2
-returns-2 c = upper w8 (c .before .args .x) (omega arith)
-
 pub signed8-spec : {M : Type 1} → statement M
-signed8-spec = tie.close (tie.spec (λ c. search needs) (λ c. search needs) (λ c. search needs) returns returns-2)
+signed8-spec =
+    tie.close
+    (tie.spec
+    (λ c. search needs)
+    (λ c. search needs)
+    (λ c. search needs)
+    (λ c. lower w8 (c .before .args .x) (omega arith))
+    (λ c. upper w8 (c .before .args .x) (omega arith)))
