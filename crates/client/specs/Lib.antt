@@ -1,0 +1,4 @@
+pub mod Record
+pub mod Ask
+pub mod Arrival
+pub mod GiveUp
