@@ -1,0 +1,102 @@
+-- The exchange of demand 3: what the differences of the four readings are, that every test of them passes, and the bound.
+use Prim.Native.Nat.{_+_, _-_, _^_, _≤_, _<_}
+use mathlib.Core.Path.{_≡_}
+use native.Mathlib.Omega.{arith}
+use lib.IntN.{ℤ, pos, natAbs, _+ℤ_, _-ℤ_}
+use lib.Signed.{_≤ℤ_}
+use Rattle.numbers.specs.Modulo.{_modulo_}
+use Rattle.numbers.proofs.Whole.{up, dn, whole, sum, minus, neg, size, size-le, eq-whole}
+use Rattle.numbers.proofs.Modulo.{modulo-below}
+use Rattle.numbers.proofs.TwosComplement.{exact}
+use Rattle.timestamp.specs.Timestamp.{_⊖_}
+use Rattle.offset.specs.Offset.{floorHalf, halfOf}
+use Rattle.offset.specs.Halving.{twice}
+use Rattle.offset.proofs.Halving.{halving}
+use Rattle.demands.specs.Taken.{Timely, P, Q, d}
+use Rattle.demands.specs.Demand3.{Exchange, reading, T1, T2, T3, T4, trueDifference, Orderly}
+
+pub reading-below : (a t : ℤ) → reading a t .0 < 2 ^ 64
+unfolding reading
+reading-below a t = modulo-below (t +ℤ a) (omega arith)
+
+-- the difference of two readings is that of the clocks' times, where that is in range; said in natural numbers
+abbrev Gap : ℤ → ℤ → ℤ → ℤ → Type 0
+Gap t a u b = up (reading a t ⊖ reading b u) + (dn t + dn a + up u + up b) ≡ (up t + up a + dn u + dn b) + dn (reading a t ⊖ reading b u)
+
+gap : (t a u b : ℤ) → dn t + dn a + up u + up b ≤ up t + up a + dn u + dn b + 2 ^ 63 → up t + up a + dn u + dn b < dn t + dn a + up u + up b + 2 ^ 63 → Gap t a u b
+unfolding reading _⊖_
+gap t a u b low high =
+    omega (arith, eq-whole (exact 64 (t +ℤ a) (u +ℤ b) (omega arith) (record { low = omega (arith, whole, times, neg (pos (2 ^ 63))); high = omega (arith, whole, times) })), times)
+  where
+    times : up ((t +ℤ a) -ℤ (u +ℤ b)) + (dn t + dn a + up u + up b) ≡ (up t + up a + dn u + dn b) + dn ((t +ℤ a) -ℤ (u +ℤ b))
+    times = omega (arith, sum t a, sum u b, minus (t +ℤ a) (u +ℤ b))
+
+module _ (e : Exchange) (o : Orderly e) where
+  open Exchange e using (sent, received, answered, arrived, client, server)
+
+  record Known : Type 0 where
+    short : up arrived + dn sent ≤ up sent + dn arrived + 2 ^ 36
+    above : up server + dn client < dn server + up client + (2 ^ 62 - 2 ^ 36)
+    below : dn server + up client < up server + dn client + (2 ^ 62 - 2 ^ 36)
+    total : Gap arrived client sent client
+    hold : Gap answered server received server
+    first : Gap received server sent client
+    second : Gap answered server arrived client
+
+  known : Known
+  known =
+      let m = minus server client in
+      let n = o .near in
+      let out = o .outward in
+      let held = o .hold in
+      let back = o .back in
+      let limit = o .short in
+      let a : up server + dn client < dn server + up client + (2 ^ 62 - 2 ^ 36) = omega (arith, size (server -ℤ client)) in
+      let b : dn server + up client < up server + dn client + (2 ^ 62 - 2 ^ 36) = omega (arith, size (server -ℤ client)) in
+      let s : up arrived + dn sent ≤ up sent + dn arrived + 2 ^ 36 = omega (arith, whole, minus arrived sent) in
+      record {
+        short = s;
+        above = a;
+        below = b;
+        total = gap arrived client sent client (omega (arith, whole)) (omega (arith, whole));
+        hold = gap answered server received server (omega (arith, whole)) (omega (arith, whole));
+        first = gap received server sent client (omega (arith, whole)) (omega (arith, whole));
+        second = gap answered server arrived client (omega (arith, whole)) (omega (arith, whole));
+      }
+
+  -- every test of the four readings passes
+  pub timely : Timely (T1 e) (T2 e) (T3 e) (T4 e)
+  timely =
+      let k = known in
+      let out = o .outward in
+      let held = o .hold in
+      let back = o .back in
+      let m = minus (T4 e ⊖ T1 e) (T3 e ⊖ T2 e) in
+      let low = neg (pos (2 ^ 62)) in
+      record {
+        arrived-after = omega (arith, whole);
+        within-limit = omega (arith, whole);
+        answered-after = omega (arith, whole);
+        delay = omega (arith, whole);
+        first-range = (omega (arith, whole), omega (arith, whole));
+        second-range = (omega (arith, whole), omega (arith, whole));
+      }
+
+  -- twice the offset plus the half, less twice the true difference, is at most the delay in size
+  abbrev total-sum : ℤ
+  total-sum = P (T1 e) (T2 e) (T3 e) (T4 e) +ℤ Q (T1 e) (T2 e) (T3 e) (T4 e)
+
+  pub bound : pos (natAbs (twice (floorHalf total-sum) +ℤ pos (halfOf total-sum) -ℤ twice (trueDifference e))) ≤ℤ d (T1 e) (T2 e) (T3 e) (T4 e)
+  bound =
+      let k = known in
+      let out = o .outward in
+      let held = o .hold in
+      let back = o .back in
+      let D = trueDifference e in
+      let e₁ = sum (P (T1 e) (T2 e) (T3 e) (T4 e)) (Q (T1 e) (T2 e) (T3 e) (T4 e)) in
+      let e₂ = sum D D in
+      let e₃ = minus total-sum (twice D) in
+      let e₄ = minus server client in
+      let e₅ = minus (T4 e ⊖ T1 e) (T3 e ⊖ T2 e) in
+      let e₆ = neg (d (T1 e) (T2 e) (T3 e) (T4 e)) in
+      rw (halving total-sum .exact) (size-le (total-sum -ℤ twice D) (d (T1 e) (T2 e) (T3 e) (T4 e)) (omega (arith, whole)) (omega (arith, whole)))

@@ -1,0 +1,32 @@
+-- The figures hold, by computation.
+use mathlib.Core.Path.{refl}
+use Rattle.numbers.specs.Modulo.{_modulo_}
+use Rattle.numbers.specs.TwosComplement.{signed, difference}
+use Rattle.timestamp.specs.Timestamp.{_⊖_}
+use Rattle.offset.specs.Offset.{floorHalf, halfOf, outOfRange, offsetTests, measured}
+use Rattle.packet.specs.Packet.{fieldsOf}
+use Rattle.calendar.specs.Gregorian.{leapDays, yearDays, monthDays, before, last}
+use Rattle.calendar.specs.Dates.{daysTo, secondsTo, yearOn, dayOfYear, monthOn, dayOfMonth, dateAt}
+use Rattle.calendar.specs.Calendar.{start1900, start2036, secondsAt, dateOf}
+use Rattle.precision.specs.Precision.{least, precisionOf}
+use Rattle.client.specs.Record.{illegal, tooSoon}
+use Rattle.client.specs.Ask.{askTests, asked}
+use Rattle.client.specs.Arrival.{replyTests, arrived}
+use Rattle.demands.specs.Figures.{done, _and_, figures, Figures}
+
+pub figures-hold : Figures
+unfolding figures measured offsetTests outOfRange floorHalf halfOf _⊖_ difference signed _modulo_ dateOf dateAt yearOn dayOfYear monthOn dayOfMonth secondsAt start1900 start2036 secondsTo daysTo before last yearDays monthDays leapDays precisionOf least asked askTests illegal tooSoon arrived replyTests fieldsOf
+figures-hold =
+    refl
+    and refl
+    and refl
+    and refl
+    and refl
+    and refl
+    and refl
+    and refl
+    and refl
+    and refl
+    and refl
+    and refl
+    and done

@@ -1,0 +1,78 @@
+-- The twelve figures that document 01 marks to be proved, one table under one claim about the definitions.
+use Prim.Native.Nat.{ℕ, _+_, _-_, _*_, _^_}
+use mathlib.Core.Path.{_≡_}
+use mathlib.Core.List.{List, [], _∷_, _++_}
+use lib.IntN.{ℤ, pos, negℤ}
+use lib.ListN.{replicate}
+use Rattle.timestamp.specs.Timestamp.{timestamp}
+use Rattle.offset.specs.declared.OffsetAnswer.{OffsetAnswer}
+use Rattle.offset.specs.Offset.{measured, numberIn, offsetIn, halfIn}
+use Rattle.calendar.specs.declared.Date.{Date}
+use Rattle.calendar.specs.declared.DateAnswer.{DateAnswer}
+use Rattle.calendar.specs.Dates.{date}
+use Rattle.calendar.specs.Calendar.{dateOf}
+use Rattle.precision.specs.declared.PrecisionAnswer.{PrecisionAnswer}
+use Rattle.precision.specs.Precision.{precisionOf}
+use Rattle.client.specs.Record.{fresh}
+use Rattle.demands.specs.Behaviour.{ask, arrival, Result, accepted, step}
+
+-- a question, and document 01's answer
+pub data Figure : Type 0 where
+  gives : (t1 t2 t3 t4 : ℕ) → (offset : ℤ) (half : ℕ) (delay : ℤ) → Figure  -- four timestamps give offset, half and delay
+  givesHalf : (t1 t2 t3 t4 : ℕ) → (offset : ℤ) (half : ℕ) → Figure  -- and where document 01 names no delay
+  givesOffset : (t1 t2 t3 t4 : ℕ) → (offset : ℤ) → Figure  -- nor a half
+  refusedBy : (t1 t2 t3 t4 number : ℕ) → Figure
+  afterAsk : (clock : ℕ) (packet : List ℕ) (t4 : ℕ) → Result → Figure  -- an arrival after a fresh client's ask in version 4
+  secondsAre : (seconds : ℕ) → Date → Figure  -- a timestamp with these seconds and no fraction
+  ticksGive : (tick : ℕ) (precision : ℤ) (other : ℕ) (other-precision : ℤ) → Figure  -- two ticks in one row
+
+abbrev measuredAt : ℕ → ℕ → ℕ → ℕ → OffsetAnswer
+measuredAt t1 t2 t3 t4 = measured (timestamp t1) (timestamp t2) (timestamp t3) (timestamp t4)
+
+abbrev pub Right : Figure → Type 0
+Right (gives t1 t2 t3 t4 offset half delay) = measuredAt t1 t2 t3 t4 ≡ OffsetAnswer.Measured offset half delay
+Right (givesHalf t1 t2 t3 t4 offset half) =
+    _≡_ {A = ℕ × ℤ × ℕ} (numberIn (measuredAt t1 t2 t3 t4), offsetIn (measuredAt t1 t2 t3 t4), halfIn (measuredAt t1 t2 t3 t4)) (0, offset, half)
+Right (givesOffset t1 t2 t3 t4 offset) = _≡_ {A = ℕ × ℤ} (numberIn (measuredAt t1 t2 t3 t4), offsetIn (measuredAt t1 t2 t3 t4)) (0, offset)
+Right (refusedBy t1 t2 t3 t4 number) = measuredAt t1 t2 t3 t4 ≡ OffsetAnswer.Refused number
+Right (afterAsk clock packet t4 result) =
+    step (step fresh (ask (replicate 48 0) 4 (timestamp clock) 0) .next) (arrival packet (timestamp t4)) .result ≡ result
+Right (secondsAre seconds d) = dateOf (timestamp (seconds * 2 ^ 32)) ≡ DateAnswer.Date d
+Right (ticksGive tick p other q) =
+    _≡_ {A = PrecisionAnswer × PrecisionAnswer} (precisionOf tick, precisionOf other) (PrecisionAnswer.Precision p, PrecisionAnswer.Precision q)
+
+-- every figure of a table is right
+infixr 3 _and_
+pub data AllRight : List Figure → Type 0 where
+  done : AllRight []
+  _and_ : {f : Figure} {fs : List Figure} → Right f → AllRight fs → AllRight (f ∷ fs)
+
+-- T1 = T2 = T3 = 2^32 units unless said
+abbrev second : ℕ
+second = 2 ^ 32
+
+-- the packet of the replay's second line
+abbrev pub replayPacket : List ℕ
+replayPacket =
+    0x24 ∷ 0x01 ∷ 0x00 ∷ 0xEC ∷ replicate 8 0
+    ++ (0x47 ∷ 0x50 ∷ 0x53 ∷ 0x00 ∷ 0x00 ∷ 0x00 ∷ 0x00 ∷ 0x04 ∷ 0x00 ∷ 0x00 ∷ 0x00 ∷ 0x00 ∷ 0xFF ∷ 0xFF ∷ 0xFF ∷ 0xFA ∷ 0x00 ∷ 0x00 ∷ 0x00 ∷ 0x00 ∷ [])
+    ++ (0x00 ∷ 0x00 ∷ 0x00 ∷ 0x04 ∷ 0x80 ∷ 0x00 ∷ 0x00 ∷ 0x00 ∷ 0x00 ∷ 0x00 ∷ 0x00 ∷ 0x05 ∷ 0x80 ∷ 0x00 ∷ 0x00 ∷ 0x00 ∷ [])
+
+unfoldable pub figures : List Figure
+figures =
+    gives second second second second (pos 0) 0 (pos 0)
+    ∷ gives second second second (second + 1) (negℤ (pos 1)) 1 (pos 1)
+    ∷ givesHalf second second second (second + 2 ^ 36) (negℤ (pos (2 ^ 35))) 0
+    ∷ refusedBy second second second (second + 2 ^ 36 + 1) 16
+    ∷ refusedBy second second second (second - 1) 15
+    ∷ refusedBy second second (second + 6) (second + 5) 18
+    ∷ givesOffset second (second + 2 ^ 62 - 1) (second + 2 ^ 62 - 1) second (pos (2 ^ 62 - 1))
+    ∷ refusedBy second (second + 2 ^ 62) (second + 2 ^ 62) second 19
+    ∷ afterAsk 0xFFFFFFFA00000000 replayPacket 0xFFFFFFFBC0000000 (accepted (pos 43486543872) 0 (pos 3221225472))
+    ∷ secondsAre 2147483648 (date 1968 1 20 3 14 8 0)
+    ∷ secondsAre 2021563904 (date 2100 3 1 0 0 0 0)
+    ∷ ticksGive 4295 (negℤ (pos 19)) 4096 (negℤ (pos 20))
+    ∷ []
+
+abbrev pub Figures : Type 0
+Figures = AllRight figures

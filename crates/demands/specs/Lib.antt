@@ -1,0 +1,11 @@
+pub mod Behaviour
+pub mod Demand1
+pub mod Taken
+pub mod Demand2
+pub mod Demand3
+pub mod Unique
+pub mod Unsynchronised
+pub mod Figures
+pub mod Impostors
+pub mod ShutOut
+pub mod Witnesses

@@ -1,0 +1,79 @@
+-- Exchanges that meet the premises of demand 3: the one of document 01's replay, over 2036, and two at the edge of what is allowed.
+use Prim.Native.Nat.{ℕ, _+_, _-_, _^_}
+use mathlib.Core.Path.{_≡_}
+use mathlib.Core.Bool.{true}
+use mathlib.Core.List.{List, [], _∷_}
+use lib.IntN.{pos, negℤ}
+use lib.ListN.{replicate}
+use Rattle.timestamp.specs.Timestamp.{timestamp}
+use Rattle.server.specs.declared.Settings.{Settings}
+use Rattle.client.specs.Record.{fresh}
+use Rattle.demands.specs.Behaviour.{Call, ask, arrival, giveUp, ours}
+use Rattle.demands.specs.Taken.{P, Q}
+use Rattle.demands.specs.Demand3.{Exchange, T1, T2, T3, T4, Given}
+
+-- T1 is FFFFFFFA 00000000; the server's clock is 10.125 s ahead; each way takes 0.375 s, and the server a second
+abbrev pub replay : Exchange
+replay = record {
+  sent = pos 0;
+  received = pos 0x60000000;
+  answered = pos 0x160000000;
+  arrived = pos 0x1C0000000;
+  client = pos 0xFFFFFFFA00000000;
+  server = pos 0x10000000420000000;
+}
+
+-- clocks as far apart as is allowed
+abbrev farthest : ℕ
+farthest = 2 ^ 62 - 2 ^ 36 - 1
+
+-- the request takes 16 s to a server that is ahead, and the reply no time
+abbrev pub ahead : Exchange
+ahead = record {
+  sent = pos 1;
+  received = pos (1 + 2 ^ 36);
+  answered = pos (1 + 2 ^ 36);
+  arrived = pos (1 + 2 ^ 36);
+  client = pos 0;
+  server = pos farthest;
+}
+
+-- the request takes no time to a server that is behind, and the reply 16 s
+abbrev pub behind : Exchange
+behind = record {
+  sent = pos 1;
+  received = pos 1;
+  answered = pos 1;
+  arrived = pos (1 + 2 ^ 36);
+  client = pos 0;
+  server = negℤ (pos farthest);
+}
+
+-- those of the replay's reply: identifier GPS, reference 4 s
+abbrev pub settings : Settings
+settings = record { synchronised = true; leap = 0; precision = negℤ (pos 20); identifier = 0x47505300; reference = timestamp 0x400000000 }
+
+abbrev pub buffer : List ℕ
+buffer = replicate 48 0
+
+-- one of each kind: an ask, an arrival with another originate timestamp, one of a wrong length, and a give-up too early
+abbrev pub calls : List Call
+calls =
+    ask buffer 4 (timestamp 0xFFFFFFFA80000000) 1
+    ∷ arrival buffer (timestamp 0xFFFFFFFB00000000)
+    ∷ arrival (replicate 47 0) (timestamp 0xFFFFFFFB40000000)
+    ∷ giveUp 15
+    ∷ []
+
+-- a fresh client asks in version 4 at uptime 0
+abbrev pub Met : Exchange → Type 0
+Met e = Given ours e fresh buffer 4 0 settings buffer calls
+
+pub record Witnesses : Type 0 where
+  pub replay-met : Met replay
+  pub replay-read : (T1 replay ≡ timestamp 0xFFFFFFFA00000000) × (T2 replay ≡ timestamp 0x0000000480000000)
+      × (T3 replay ≡ timestamp 0x0000000580000000) × (T4 replay ≡ timestamp 0xFFFFFFFBC0000000)
+  pub ahead-met : Met ahead
+  pub ahead-highest : P (T1 ahead) (T2 ahead) (T3 ahead) (T4 ahead) ≡ pos (2 ^ 62 - 1)
+  pub behind-met : Met behind
+  pub behind-lowest : Q (T1 behind) (T2 behind) (T3 behind) (T4 behind) ≡ negℤ (pos (2 ^ 62 - 1))

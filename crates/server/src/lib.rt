@@ -1,0 +1,157 @@
+// The SNTP server for unicast exchanges (RFC 4330, section 6). It keeps nothing.
+ghost use mathlib.Core.Path.{_≡_};
+ghost use Prim.Native.Nat.{_≤_};
+ghost use mathlib.Core.List.{_++_};
+ghost use lib.ListN.{length, drop};
+ghost use Rattle.refusals.specs.Tests.{number, answer, kept};
+ghost use Rattle.packet.specs.Packet.{octetsOf};
+ghost use Rattle.server.specs.Server.{outOfRange, requestTests, replyWith, replyFields, replied, repliedBuffer};
+use packet::Fields;
+use packet::FieldsAnswer;
+use refusals::between;
+use refusals::or_else;
+use timestamp::Timestamp;
+
+// `leap` is LI; `identifier` and `reference` say from where and when the server's clock was last set.
+pub struct Settings {
+    pub synchronised: bool,
+    pub leap: u8,
+    pub precision: i8,
+    pub identifier: u32,
+    pub reference: Timestamp,
+}
+
+pub enum ReplyAnswer {
+    Refused(u8),
+    Written,
+}
+
+fn out_of_range(settings: Settings) -> bool
+    ensures { λ r. ⌜ r ≡ outOfRange settings ⌝ }
+{
+    (2 < settings.leap) | (settings.precision < -32) | (0 < settings.precision)
+}
+
+// The tests in order, of a request with these fields.
+fn first_refusal(settings: Settings, request: Fields, t2: Timestamp, t3: Timestamp) -> u8
+    ensures { λ r. ⌜ r ≡ number (requestTests settings request t2 t3) ⌝ }
+{
+    let synchronised = settings.synchronised;
+    let n = or_else(0, request.mode != 3, refusals::REQUEST_MODE_WRONG);
+    let n = or_else(
+        n,
+        !between(1, 4, request.version),
+        refusals::REQUEST_VERSION_UNSUPPORTED,
+    );
+    let n = or_else(n, out_of_range(settings), refusals::SETTINGS_OUT_OF_RANGE);
+    let n = or_else(
+        n,
+        synchronised & (t2.is_zero() | t3.is_zero()),
+        refusals::SERVER_TIMESTAMP_ZERO,
+    );
+    or_else(
+        n,
+        synchronised & (t3.minus(t2) < 0),
+        refusals::ANSWERED_BEFORE_RECEIVED,
+    )
+}
+
+// The reply's fields. Those that depend on whether the server is synchronised are given.
+fn reply_with(
+    settings: Settings,
+    request: Fields,
+    leap: u8,
+    stratum: u8,
+    identifier: u32,
+    reference: Timestamp,
+    receive: Timestamp,
+    transmit: Timestamp,
+) -> Fields
+    ensures { λ r. ⌜ r ≡ replyWith settings request leap stratum identifier reference receive transmit ⌝ }
+{
+    let originate = request.transmit;
+    Fields {
+        leap,
+        version: request.version,
+        mode: 4,
+        stratum,
+        poll: request.poll,
+        precision: settings.precision,
+        root_delay: 0,
+        root_dispersion: 0,
+        identifier,
+        reference,
+        originate,
+        receive,
+        transmit,
+    }
+}
+
+fn reply_fields(settings: Settings, request: Fields, t2: Timestamp, t3: Timestamp) -> Fields
+    ensures { λ r. ⌜ r ≡ replyFields settings request t2 t3 ⌝ }
+{
+    let synchronised = settings.synchronised;
+    if synchronised {
+        return reply_with(
+            settings,
+            request,
+            settings.leap,
+            1,
+            settings.identifier,
+            settings.reference,
+            t2,
+            t3,
+        );
+    }
+    reply_with(
+        settings,
+        request,
+        3,
+        0,
+        kiss::code(b"INIT"),
+        Timestamp::ZERO,
+        Timestamp::ZERO,
+        Timestamp::ZERO,
+    )
+}
+
+// Replies to a request with these fields.
+fn reply_to(
+    settings: Settings,
+    request: Fields,
+    t2: Timestamp,
+    t3: Timestamp,
+    buffer: &mut [u8],
+) -> ReplyAnswer
+    requires { ⌜ 48 ≤ length (now buffer) ⌝ }
+    ensures { λ r. ⌜ r ≡ answer ReplyAnswer.Refused (requestTests settings request t2 t3) ⌝ }
+    ensures { λ _. ⌜ now (buffer .exit) ≡ kept (requestTests settings request t2 t3) (now (buffer .entry)) (octetsOf (replyFields settings request t2 t3) ++ drop 48 (now (buffer .entry))) ⌝ }
+{
+    let number = first_refusal(settings, request, t2, t3);
+    if number != 0 {
+        return ReplyAnswer::Refused(number);
+    }
+    // Not refused: the buffer is long enough, and no field is too large.
+    packet::write(buffer, reply_fields(settings, request, t2, t3));
+    ReplyAnswer::Written
+}
+
+// Writes the reply to a request that was received at T2 into the first 48 octets of the buffer; T3 is when it is sent.
+pub fn reply(
+    request: &[u8],
+    settings: Settings,
+    t2: Timestamp,
+    t3: Timestamp,
+    buffer: &mut [u8],
+) -> ReplyAnswer
+    ensures answer { λ r. ⌜ r ≡ replied (now (request .entry)) settings t2 t3 (now (buffer .entry)) ⌝ }
+    ensures buffer { λ _. ⌜ now (buffer .exit) ≡ repliedBuffer (now (request .entry)) settings t2 t3 (now (buffer .entry)) ⌝ }
+{
+    if buffer.len() < 48 {
+        return ReplyAnswer::Refused(refusals::BUFFER_TOO_SHORT);
+    }
+    match packet::read(request) {
+        FieldsAnswer::Refused(number) => ReplyAnswer::Refused(number),
+        FieldsAnswer::Fields(fields) => reply_to(settings, fields, t2, t3, buffer),
+    }
+}
