@@ -1,0 +1,81 @@
+// What stands in the octets of an input line. Every function is total: past the end of the line there are zeros.
+use client::Client;
+use client::Phase;
+use packet::Fields;
+use timestamp::Timestamp;
+
+pub(crate) fn octet(line: &[u8], at: usize) -> u8 {
+    if at < line.len() { line[at] } else { 0 }
+}
+
+pub(crate) fn number32(line: &[u8], at: usize) -> u32 {
+    if line.len() < 4 {
+        return 0;
+    }
+    if line.len() - 4 < at {
+        return 0;
+    }
+    octets::join32(line[at], line[at + 1], line[at + 2], line[at + 3])
+}
+
+pub(crate) fn number64(line: &[u8], at: usize) -> u64 {
+    if line.len() < 8 {
+        return 0;
+    }
+    if line.len() - 8 < at {
+        return 0;
+    }
+    octets::join64(number32(line, at), number32(line, at + 4))
+}
+
+pub(crate) fn timestamp(line: &[u8], at: usize) -> Timestamp {
+    Timestamp(number64(line, at))
+}
+
+pub(crate) fn flag(octet: u8) -> bool {
+    octet == 1
+}
+
+fn phase(octet: u8) -> Phase {
+    match octet {
+        0 => Phase::Idle,
+        1 => Phase::Waiting,
+        _ => Phase::Stopped,
+    }
+}
+
+// Whether the octets after the operation can be a client record: its phase and its flag have only some values.
+pub(crate) fn has_record(line: &[u8]) -> bool {
+    (octet(line, 1) <= 2) & (octet(line, 11) <= 1)
+}
+
+// The client record after the operation.
+pub(crate) fn record(line: &[u8]) -> Client {
+    Client {
+        phase: phase(octet(line, 1)),
+        transmit: timestamp(line, 2),
+        version: octet(line, 10),
+        asked: flag(octet(line, 11)),
+        uptime: number64(line, 12),
+        exponent: octet(line, 20),
+    }
+}
+
+// The fields after the operation and a buffer's length.
+pub(crate) fn fields(line: &[u8]) -> Fields {
+    Fields {
+        leap: octet(line, 2),
+        version: octet(line, 3),
+        mode: octet(line, 4),
+        stratum: octet(line, 5),
+        poll: octet(line, 6),
+        precision: octets::signed8(octet(line, 7)),
+        root_delay: octets::signed32(number32(line, 8)),
+        root_dispersion: number32(line, 12),
+        identifier: number32(line, 16),
+        reference: timestamp(line, 20),
+        originate: timestamp(line, 28),
+        receive: timestamp(line, 36),
+        transmit: timestamp(line, 44),
+    }
+}
