@@ -133,8 +133,9 @@ impl Client {
         ensures { λ r. ⌜ r ≡ isFresh self ⌝ }
     {
         let phase = self.phase;
+        let transmit = self.transmit;
         phase.is_idle()
-            & (self.transmit.0 == 0)
+            & transmit.is_zero()
             & (self.version == 0)
             & !self.asked
             & (self.uptime == 0)
@@ -146,9 +147,11 @@ impl Client {
     {
         let phase = self.phase;
         let waiting = phase.is_waiting();
+        let transmit = self.transmit;
+        let zero = transmit.is_zero();
         !between(6, 14, self.exponent)
-            | (waiting & ((self.transmit.0 == 0) | !between(1, 4, self.version)))
-            | (!waiting & !((self.transmit.0 == 0) & (self.version == 0)))
+            | (waiting & (zero | !between(1, 4, self.version)))
+            | (!waiting & !(zero & (self.version == 0)))
             | (!self.asked & !self.is_fresh())
     }
 
