@@ -1,0 +1,1 @@
+// Replay lines: the definitions stand in specs/, their laws in proofs/.
