@@ -1,31 +1,17 @@
 // A client and a server of ours: document 01's exchange across 2036, a kiss, a give-up and a few refusals, a line a call.
+use crate::print::decimal;
+use crate::print::hexadecimal;
+use crate::print::measured;
+use crate::print::refused;
+use crate::print::text;
 use client::ArrivalAnswer;
 use client::CallAnswer;
 use client::Client;
 use client::Next;
-use libc::STDOUT_FILENO;
 use packet::FieldsAnswer;
 use server::ReplyAnswer;
 use server::Settings;
 use timestamp::Timestamp;
-
-fn text(octets: &[u8]) {
-    io::write_all(STDOUT_FILENO, octets);
-}
-
-fn decimal(n: u64) {
-    io::print_decimal(STDOUT_FILENO, n);
-}
-
-fn hexadecimal(n: u64, digits: usize) {
-    io::print_hex(STDOUT_FILENO, n, digits);
-}
-
-fn refused(n: u8) {
-    text(b"refused ");
-    decimal(n as u64);
-    text(b"\n");
-}
 
 // What an ask or a give-up answers; the next record is handed on.
 fn show_call(next: Next) -> Client {
@@ -55,13 +41,8 @@ fn show_answer(answer: ArrivalAnswer) {
             half,
             delay,
         } => {
-            text(b"accepted, offset ");
-            hexadecimal(octets::bits64(offset), 16);
-            text(b" half ");
-            decimal(half as u64);
-            text(b" delay ");
-            hexadecimal(octets::bits64(delay), 16);
-            text(b"\n");
+            text(b"accepted, ");
+            measured(offset, half, delay);
         }
         ArrivalAnswer::Kiss { code, row } => {
             text(b"kiss, code ");
@@ -180,7 +161,7 @@ fn server_refusals() {
     show_reply(&request, true, &mut reply);
 }
 
-fn main() {
+pub(crate) fn run() {
     let mut request = [0u8; 48];
     let mut reply = [0u8; 48];
     let client = two_exchanges(&mut request, &mut reply);
