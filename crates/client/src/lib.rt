@@ -1,6 +1,7 @@
 // The SNTP client for unicast exchanges (RFC 4330, section 5). A record goes in by value, and each call hands the next record back.
 ghost use mathlib.Core.Path.{_≡_};
-ghost use mathlib.Core.Bool.{false};
+ghost use mathlib.Core.Bool.{false, not};
+ghost use lib.Dec.{eqb};
 ghost use mathlib.Core.List.{_++_};
 ghost use Prim.Native.Nat.{_^_, _≤_, suc, min};
 ghost use lib.ListN.{length, drop};
@@ -306,6 +307,13 @@ impl Client {
         }
     }
 
+    // The originate timestamp is not the transmit timestamp of the request.
+    fn other_originate(self, f: Fields) -> bool
+        ensures { λ r. ⌜ r ≡ not (eqb (f .originate .0) (self .transmit .0)) ⌝ }
+    {
+        !(f.originate.0 == self.transmit.0)
+    }
+
     // Whether the packet answers the request.
     fn match_number(self, f: Fields) -> u8
         ensures { λ r. ⌜ r ≡ number (matchTests self false f pass) ⌝ }
@@ -313,8 +321,8 @@ impl Client {
         let phase = self.phase;
         let n = or_else(0, self.illegal(), refusals::RECORD_NOT_LEGAL);
         let n = or_else(n, !phase.is_waiting(), refusals::NOT_WAITING);
-        let same = f.originate.0 == self.transmit.0;
-        let n = or_else(n, !same, refusals::ORIGINATE_MISMATCH);
+        let other = self.other_originate(f);
+        let n = or_else(n, other, refusals::ORIGINATE_MISMATCH);
         let n = or_else(n, !(f.mode == 4), refusals::REPLY_MODE_WRONG);
         or_else(n, !(f.version == self.version), refusals::VERSION_MISMATCH)
     }
