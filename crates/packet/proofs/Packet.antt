@@ -1,30 +1,37 @@
 -- Laws of the stores that write a packet, and of what writing gives where it does not refuse. Assumes nothing.
-use Prim.Native.Nat.{ℕ, _+_, _/_, _%_, _^_, _≤_}
+use Prim.Native.Nat.{ℕ, zero, suc, _≤_, _<_}
+use native.Mathlib.Omega.{arith}
 use native.Mathlib.Nat.{zero-add}
 use mathlib.Core.Path.{_≡_, refl, sym, _∙_}
 use mathlib.Core.Bool.{Bool, true, false, _||_}
-use mathlib.Core.List.{List, _++_, reverse, reverse-append}
+use mathlib.Core.List.{List, [], _∷_, _++_}
 use borrow.Author.Tests.{le-ltb, ltb-false}
 use lib.Dec.{ltb}
-use lib.ListN.{length, drop, length-append, length-reverse}
+use lib.ListN.{length, drop, length-append}
 use lib.Seq.{sets, sets-eq}
-use Rattle.numbers.specs.Octets.{octets}
-use Rattle.numbers.proofs.Octets.{length-octets, octets-add, octets-mod, sets-append}
+use Rattle.numbers.specs.Octets.{bigEndian, octets, AreOctets}
+use Rattle.numbers.proofs.Octets.{length-octets, octets-bigEndian}
 use Rattle.refusals.specs.Numbers.{packet-length-wrong}
 use Rattle.refusals.specs.Tests.{_if_else_, otherwise, answer}
 use Rattle.packet.specs.declared.Fields.{Fields}
 use Rattle.packet.specs.declared.FieldsAnswer.{FieldsAnswer}
 use Rattle.packet.specs.Packet.{fieldsOf, octetsOf, wrongLength, readAnswer, tooLarge, writeNumber, written}
 
--- the m + n octets of y in reverse order are stored by the lower n and then the higher m
-pub sets-halves : (m n : ℕ) (l : List ℕ) (at y : ℕ)
-    → sets (sets l at (reverse (octets n (y % 256 ^ n)))) (at + n) (reverse (octets m (y / 256 ^ n))) ≡ sets l at (reverse (octets (m + n) y))
-sets-halves m n l at y =
-    rw (octets-mod, octets-add, reverse-append, sets-append, length-reverse, length-octets n y)
-
 pub length-octetsOf : (f : Fields) → length (octetsOf f) ≡ 48
 unfolding octetsOf
 length-octetsOf f = simp (length-append, length-octets)
+
+-- four octets are those of their number
+module _ (a b c d : ℕ) (small : (a < 256) × (b < 256) × (c < 256) × (d < 256)) where
+  are-four : AreOctets (a ∷ b ∷ c ∷ d ∷ [])
+  are-four zero = small .0
+  are-four (suc zero) = small .1
+  are-four (suc (suc zero)) = small .2
+  are-four (suc (suc (suc zero))) = small .3
+  are-four (suc (suc (suc (suc i)))) = omega arith
+
+  pub octets-four : octets 4 (bigEndian (a ∷ b ∷ c ∷ d ∷ [])) ≡ a ∷ b ∷ c ∷ d ∷ []
+  octets-four = octets-bigEndian 4 (a ∷ b ∷ c ∷ d ∷ []) refl are-four
 
 none : (a b c : Bool) → a || b || c ≡ false → (a ≡ false) × (b ≡ false) × (c ≡ false)
 none true b c e = (cc, cc, cc)

@@ -2,10 +2,10 @@
 ghost use mathlib.Core.Path.{_≡_};
 ghost use Prim.Native.Nat.{_+_, _*_, _≤_};
 ghost use mathlib.Core.Bool.{false};
-ghost use mathlib.Core.List.{[], _∷_, _++_, reverse};
-ghost use lib.ListN.{length};
+ghost use mathlib.Core.List.{_++_};
+ghost use lib.ListN.{length, take};
 ghost use lib.Seq.{sets};
-ghost use Rattle.numbers.specs.Octets.{bigEndian, octets, part};
+ghost use Rattle.numbers.specs.Octets.{octets};
 ghost use Rattle.packet.specs.Packet.{fieldsOf, octetsOf, tooLarge, readAnswer, writeNumber, written};
 use timestamp::Timestamp;
 
@@ -32,22 +32,6 @@ pub enum FieldsAnswer {
     Fields(Fields),
 }
 
-// The number of the four octets from index at on. Joined from the lowest octet up and then reversed, the four loads are compiled to one.
-fn number32(p: &[u8], at: usize) -> u32
-    requires { ⌜ at + 4 ≤ length (now p) ⌝ }
-    ensures { λ r. ⌜ r ≡ bigEndian (part at 4 (now (p .entry))) ⌝ }
-{
-    octets::reversed32(octets::join32(p[at + 3], p[at + 2], p[at + 1], p[at]))
-}
-
-// The number of the eight octets from index at on.
-fn number64(p: &[u8], at: usize) -> u64
-    requires { ⌜ at + 8 ≤ length (now p) ⌝ }
-    ensures { λ r. ⌜ r ≡ bigEndian (part at 8 (now (p .entry))) ⌝ }
-{
-    octets::join64(number32(p, at), number32(p, at + 4))
-}
-
 // The fields of a packet that has at least 48 octets.
 fn read_fields(p: &[u8]) -> Fields
     requires { ⌜ 48 ≤ length (now p) ⌝ }
@@ -60,13 +44,13 @@ fn read_fields(p: &[u8]) -> Fields
         stratum: p[1],
         poll: p[2],
         precision: octets::signed8(p[3]),
-        root_delay: octets::signed32(number32(p, 4)),
-        root_dispersion: number32(p, 8),
-        identifier: number32(p, 12),
-        reference: Timestamp(number64(p, 16)),
-        originate: Timestamp(number64(p, 24)),
-        receive: Timestamp(number64(p, 32)),
-        transmit: Timestamp(number64(p, 40)),
+        root_delay: octets::signed32(octets::number32(p, 4)),
+        root_dispersion: octets::number32(p, 8),
+        identifier: octets::number32(p, 12),
+        reference: Timestamp(octets::number64(p, 16)),
+        originate: Timestamp(octets::number64(p, 24)),
+        receive: Timestamp(octets::number64(p, 32)),
+        transmit: Timestamp(octets::number64(p, 40)),
     }
 }
 
@@ -78,50 +62,6 @@ pub fn read(packet: &[u8]) -> FieldsAnswer
         return FieldsAnswer::Fields(read_fields(packet));
     }
     FieldsAnswer::Refused(refusals::PACKET_LENGTH_WRONG)
-}
-
-// Stores four octets from index at on.
-fn put_four(b: &mut [u8], at: usize, x0: u8, x1: u8, x2: u8, x3: u8)
-    requires { ⌜ at + 4 ≤ length (now b) ⌝ }
-    ensures { λ _. ⌜ now (b .exit) ≡ sets (now (b .entry)) at (x0 ∷ x1 ∷ x2 ∷ x3 ∷ []) ⌝ }
-{
-    b[at] = x0;
-    b[at + 1] = x1;
-    b[at + 2] = x2;
-    b[at + 3] = x3;
-}
-
-// Stores the four octets of x from index at on, the lowest first: the four stores are compiled to one.
-fn put_reversed(b: &mut [u8], at: usize, x: u32)
-    requires { ⌜ at + 4 ≤ length (now b) ⌝ }
-    ensures { λ _. ⌜ now (b .exit) ≡ sets (now (b .entry)) at (reverse (octets 4 x)) ⌝ }
-{
-    put_four(
-        b,
-        at,
-        (x % 256) as u8,
-        (x / 256 % 256) as u8,
-        (x / 65536 % 256) as u8,
-        (x / 16777216 % 256) as u8,
-    );
-}
-
-// Stores the four octets of x from index at on.
-fn put32(b: &mut [u8], at: usize, x: u32)
-    requires { ⌜ at + 4 ≤ length (now b) ⌝ }
-    ensures { λ _. ⌜ now (b .exit) ≡ sets (now (b .entry)) at (octets 4 x) ⌝ }
-{
-    put_reversed(b, at, octets::reversed32(x));
-}
-
-// Stores the eight octets of x from index at on.
-fn put64(b: &mut [u8], at: usize, x: u64)
-    requires { ⌜ at + 8 ≤ length (now b) ⌝ }
-    ensures { λ _. ⌜ now (b .exit) ≡ sets (now (b .entry)) at (octets 8 x) ⌝ }
-{
-    let y = octets::reversed64(x);
-    put_reversed(b, at, (y % 4294967296) as u32);
-    put_reversed(b, at + 4, (y / 4294967296) as u32);
 }
 
 // Stores the octets of four timestamps from index at on.
@@ -136,10 +76,10 @@ fn put_timestamps(
     requires { ⌜ at + 32 ≤ length (now b) ⌝ }
     ensures { λ _. ⌜ now (b .exit) ≡ sets (now (b .entry)) at (octets 8 (t0 .0) ++ octets 8 (t1 .0) ++ octets 8 (t2 .0) ++ octets 8 (t3 .0)) ⌝ }
 {
-    put64(b, at, t0.0);
-    put64(b, at + 8, t1.0);
-    put64(b, at + 16, t2.0);
-    put64(b, at + 24, t3.0);
+    octets::put64(b, at, t0.0);
+    octets::put64(b, at + 8, t1.0);
+    octets::put64(b, at + 16, t2.0);
+    octets::put64(b, at + 24, t3.0);
 }
 
 // A field is too large to write.
@@ -157,23 +97,29 @@ fn first_octet(leap: u8, version: u8, mode: u8) -> u8
     leap * 64 + version * 8 + mode
 }
 
+// The number of octets 0 to 3.
+fn first_word(fields: Fields) -> u32
+    requires { ⌜ tooLarge fields ≡ false ⌝ }
+    ensures { λ r. ⌜ octets 4 r ≡ take 4 (octetsOf fields) ⌝ }
+{
+    octets::join32(
+        first_octet(fields.leap, fields.version, fields.mode),
+        fields.stratum,
+        fields.poll,
+        octets::bits8(fields.precision),
+    )
+}
+
 // Stores the 48 octets of fields that are not too large.
 fn put_fields(b: &mut [u8], fields: Fields)
     requires { ⌜ 48 ≤ length (now b) ⌝ }
     requires { ⌜ tooLarge fields ≡ false ⌝ }
     ensures { λ _. ⌜ now (b .exit) ≡ sets (now (b .entry)) 0 (octetsOf fields) ⌝ }
 {
-    put_four(
-        b,
-        0,
-        first_octet(fields.leap, fields.version, fields.mode),
-        fields.stratum,
-        fields.poll,
-        octets::bits8(fields.precision),
-    );
-    put32(b, 4, octets::bits32(fields.root_delay));
-    put32(b, 8, fields.root_dispersion);
-    put32(b, 12, fields.identifier);
+    octets::put32(b, 0, first_word(fields));
+    octets::put32(b, 4, octets::bits32(fields.root_delay));
+    octets::put32(b, 8, fields.root_dispersion);
+    octets::put32(b, 12, fields.identifier);
     put_timestamps(
         b,
         16,

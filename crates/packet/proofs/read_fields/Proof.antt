@@ -1,6 +1,14 @@
 -- `packet::read_fields` meets its contract: field by field, from what each call ensures. Assumes nothing.
+use Prim.Native.Nat.{ℕ, _+_, _≤_}
+use native.Mathlib.Omega.{arith}
+use mathlib.Core.Path.{_≡_, _∙_}
 use mir.Syntax.{w8, w32}
+use lib.ListN.{length}
+use denote.Ref.{now}
+use Rattle.numbers.specs.Octets.{bigEndian, part}
 use Rattle.numbers.proofs.Machine.{told}
+use Rattle.octets.specs.Slices.{numberAt}
+use Rattle.octets.proofs.Slices.{number-room}
 use Rattle.packet.specs.Packet.{fieldsOf}
 use borrow.Author.Needs.{needs}
 use Rattle.packet.proofs.read_fields.Statement.{statement}
@@ -15,10 +23,25 @@ returns c =
     let n16 = c .before .before .before .number64 in
     let n12 = c .before .before .before .before .number323 in
     let n8 = c .before .before .before .before .before .number322 in
-    let s4 = c .before .before .before .before .before .before .signed32 in
-    let n4 = c .before .before .before .before .before .before .before .number32 in
-    let s3 = c .before .before .before .before .before .before .before .before .signed8 in
-    rw (told w8 (s3 .ok) (s3 .ensures), told w32 (s4 .ok) (s4 .ensures), n4 .ensures, n8 .ensures, n12 .ensures, n16 .ensures, n24 .ensures, n32 .ensures, n40 .ensures)
+    let c4 = c .before .before .before .before .before .before in
+    let s4 = c4 .signed32 in
+    let n4 = c4 .before .number32 in
+    let s3 = c4 .before .before .signed8 in
+    let c0 = c4 .before .before .before .before .before .before .before .before .before .before in
+    let p = now (c0 .args .p) in
+    let long : 48 ≤ length p = c0 .pre in
+    let room : (n at : ℕ) → at + n ≤ 48 → numberAt n p at ≡ bigEndian (part at n p) = λ n at h. number-room n p at (omega arith) in
+    rw (
+      told w8 (s3 .ok) (s3 .ensures),
+      told w32 (s4 .ok) (s4 .ensures),
+      n4 .ensures ∙ room 4 4 (omega arith),
+      n8 .ensures ∙ room 4 8 (omega arith),
+      n12 .ensures ∙ room 4 12 (omega arith),
+      n16 .ensures ∙ room 8 16 (omega arith),
+      n24 .ensures ∙ room 8 24 (omega arith),
+      n32 .ensures ∙ room 8 32 (omega arith),
+      n40 .ensures ∙ room 8 40 (omega arith),
+    )
 
 pub read-fields-spec : {M : Type 1} → statement M
 read-fields-spec =

@@ -1,4 +1,4 @@
--- `packet::number32` meets its contract: the reverse of the octets in reverse order is the number of the octets. Assumes nothing.
+-- `octets::read32` meets its contract: the reverse of the octets in reverse order is the number of the octets. Assumes nothing.
 use Prim.Native.Nat.{ℕ}
 use native.Mathlib.Omega.{arith}
 use mathlib.Core.Path.{sym, ap, _∙_}
@@ -7,8 +7,8 @@ use denote.Ref.{now}
 use Rattle.numbers.specs.Octets.{bigEndian, AreOctets}
 use Rattle.numbers.proofs.Octets.{part-four, number-reverse}
 use borrow.Author.Needs.{needs}
-use Rattle.packet.proofs.number32.Statement.{statement}
-use Rattle.packet.proofs.number32.Tie as tie
+use Rattle.octets.proofs.read32.Statement.{statement}
+use Rattle.octets.proofs.read32.Tie as tie
 
 returns : tie.Need-returns
 returns c =
@@ -19,8 +19,8 @@ returns c =
     let y = c .before .join32 .ensures ∙ ap (λ (xs : List ℕ). bigEndian (reverse xs)) (sym (part-four at p (a .pre))) in
     c .reversed32 .ensures ∙ number-reverse 4 at p (c .before .join32 .result) known (a .pre) y
 
-pub number32-spec : {M : Type 1} → statement M
-number32-spec =
+pub read32-spec : {M : Type 1} → statement M
+read32-spec =
     tie.close
     (tie.spec
     (λ c. search needs)

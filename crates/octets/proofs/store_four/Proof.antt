@@ -1,16 +1,16 @@
--- `packet::put_four` meets its contract: four stores, one after the other, are a run of stores. Assumes nothing.
+-- `octets::store_four` meets its contract: four stores, one after the other, are a run of stores. Assumes nothing.
 use native.Mathlib.Numerals.{towards-suc}
 use native.Mathlib.Omega.{arith}
 use lib.ListN.{length-set}
 use borrow.Author.Needs.{needs}
-use Rattle.packet.proofs.put_four.Statement.{statement}
-use Rattle.packet.proofs.put_four.Tie as tie
+use Rattle.octets.proofs.store_four.Statement.{statement}
+use Rattle.octets.proofs.store_four.Tie as tie
 
 returns : tie.Need-returns
 returns c = simp towards-suc
 
-pub put-four-spec : {M : Type 1} → statement M
-put-four-spec =
+pub store-four-spec : {M : Type 1} → statement M
+store-four-spec =
     tie.close
     (tie.spec
     (λ c. search needs)
