@@ -1,6 +1,8 @@
 // What stands in the octets of an input line. Every function is total: past the end of the line there are zeros.
 use client::Client;
 use client::Phase;
+use octets::number32;
+use octets::number64;
 use packet::Fields;
 use timestamp::Timestamp;
 
@@ -8,32 +10,16 @@ pub(crate) fn octet(line: &[u8], at: usize) -> u8 {
     if at < line.len() { line[at] } else { 0 }
 }
 
-pub(crate) fn number32(line: &[u8], at: usize) -> u32 {
-    if line.len() < 4 {
-        return 0;
+// What follows the first octets.
+pub(crate) fn after(line: &[u8], count: usize) -> &[u8] {
+    if line.len() < count {
+        return &line[0..0];
     }
-    if line.len() - 4 < at {
-        return 0;
-    }
-    octets::join32(line[at], line[at + 1], line[at + 2], line[at + 3])
-}
-
-pub(crate) fn number64(line: &[u8], at: usize) -> u64 {
-    if line.len() < 8 {
-        return 0;
-    }
-    if line.len() - 8 < at {
-        return 0;
-    }
-    octets::join64(number32(line, at), number32(line, at + 4))
+    &line[count..]
 }
 
 pub(crate) fn timestamp(line: &[u8], at: usize) -> Timestamp {
     Timestamp(number64(line, at))
-}
-
-pub(crate) fn flag(octet: u8) -> bool {
-    octet == 1
 }
 
 fn phase(octet: u8) -> Phase {
@@ -55,7 +41,7 @@ pub(crate) fn record(line: &[u8]) -> Client {
         phase: phase(octet(line, 1)),
         transmit: timestamp(line, 2),
         version: octet(line, 10),
-        asked: flag(octet(line, 11)),
+        asked: octet(line, 11) == 1,
         uptime: number64(line, 12),
         exponent: octet(line, 20),
     }

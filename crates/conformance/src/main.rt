@@ -1,4 +1,5 @@
 // Reads lines from standard input, each an operation on the proved parts, and writes one answer a line to standard output.
+mod answers;
 mod asks;
 mod input;
 mod lent;
@@ -7,137 +8,122 @@ mod packets;
 mod replies;
 mod times;
 
+ghost use Prim.Native.Nat.{_≤_};
+use answers::Answer;
+use input::has_record;
+use input::octet;
+use lent::can_lend;
 use libc::STDIN_FILENO;
 use lines::Line;
 
-// The line so far, where its answer goes, and whether the input goes on.
+// The line so far, and where its answer goes.
 struct State {
     line: Line,
     at: usize,
-    more: bool,
+}
+
+// The line after some characters, and the index of the next one.
+struct Taken {
+    line: Line,
+    next: usize,
 }
 
 // The answer to a line of these octets.
-fn answer(line: &[u8], space: &mut [u8], out: &mut [u8], at: usize) -> usize {
-    match input::octet(line, 0) {
-        0x01 => times::difference(line, out, at),
-        0x02 => times::measure(line, out, at),
-        0x03 => packets::read(line, out, at),
-        0x04 => packets::write(line, space, out, at),
-        0x05 => times::date(line, out, at),
-        0x06 => times::timestamp_of_date(line, out, at),
-        0x07 => times::precision(line, out, at),
-        0x08 => asks::ask(line, space, out, at),
-        0x09 => asks::arrival(line, out, at),
-        0x0A => asks::give_up(line, out, at),
-        0x0B => replies::reply(line, space, out, at),
-        0xF0 => asks::fresh(line, out, at),
-        0xF1 => times::constants(line, out, at),
-        0xF2 => times::halve(line, out, at),
-        _ => output::put_malformed(out, at),
+fn answer_to(line: &[u8]) -> Answer {
+    let n = line.len();
+    match octet(line, 0) {
+        0x01 => times::difference(line).if_well_formed(n == 17),
+        0x02 => times::measure(line).if_well_formed(n == 33),
+        0x03 => packets::read(line).if_well_formed(n <= 81),
+        0x04 => packets::write(line).if_well_formed((n == 52) & can_lend(line, 1)),
+        0x05 => times::date(line).if_well_formed(n == 9),
+        0x06 => times::timestamp_of_date(line).if_well_formed(n == 14),
+        0x07 => times::precision(line).if_well_formed(n == 9),
+        0x08 => asks::ask(line).if_well_formed((n == 39) & has_record(line) & can_lend(line, 21)),
+        0x09 => asks::arrival(line).if_well_formed((29 <= n) & (n <= 109) & has_record(line)),
+        0x0A => asks::give_up(line).if_well_formed((n == 29) & has_record(line)),
+        0x0B => replies::reply(line).if_well_formed(replies::is_well_formed(line)),
+        0xF0 => asks::fresh().if_well_formed(n == 1),
+        0xF1 => times::constants().if_well_formed(n == 1),
+        0xF2 => times::halve(line).if_well_formed(n == 9),
+        _ => Answer::malformed(),
     }
 }
 
 // The answer to a line that has ended; its octets are at the start of the buffer.
-fn answer_line(line: Line, octets: &[u8], space: &mut [u8], out: &mut [u8], at: usize) -> usize {
+fn answer_line(line: Line, octets: &[u8]) -> Answer {
     let count = line.count;
-    if !line.is_whole() || octets.len() < count {
-        return output::put_malformed(out, at);
+    if octets.len() < count {
+        return Answer::malformed();
     }
-    answer(&octets[0..count], space, out, at)
+    answer_to(&octets[0..count]).if_well_formed(line.is_whole())
 }
 
-fn end_line(state: State, octets: &[u8], space: &mut [u8], out: &mut [u8]) -> State {
-    let at = answer_line(state.line, octets, space, out, state.at);
-    State {
-        line: Line::start(),
-        at: output::end_answer(out, at),
-        more: state.more,
-    }
+fn end_line(line: Line, octets: &[u8], out: &mut [u8], at: usize) -> usize {
+    output::put_line(out, at, answer_line(line, octets))
 }
 
-fn take(state: State, c: u8, octets: &mut [u8], space: &mut [u8], out: &mut [u8]) -> State {
-    if c == b'\n' {
-        return end_line(state, octets, space, out);
-    }
-    let line = state.line;
-    State {
-        line: line.push(octets, c),
-        at: state.at,
-        more: state.more,
-    }
-}
-
-fn take_all(
-    start: State,
-    characters: &[u8],
-    octets: &mut [u8],
-    space: &mut [u8],
-    out: &mut [u8],
-) -> State {
-    let mut state = start;
-    let mut i = 0;
-    while i < characters.len() {
-        state = take(state, characters[i], octets, space, out);
+// Takes characters up to a line feed or the end.
+fn take_line(start: Line, characters: &[u8], from: usize, octets: &mut [u8]) -> Taken
+    ensures { λ r. ⌜ from ≤ r .next ⌝ }
+{
+    let mut line = start;
+    let mut i = from;
+    while i < characters.len() && characters[i] != b'\n' {
+        line = line.push(octets, characters[i]);
         i += 1;
     }
-    state
+    Taken { line, next: i }
 }
 
-// A read error counts as the end of the input.
-fn read_some(
-    state: State,
-    block: &mut [u8],
-    octets: &mut [u8],
-    space: &mut [u8],
-    out: &mut [u8],
-) -> State {
-    let got = libc::read(STDIN_FILENO, block);
-    let n = io::count(got, block);
-    if n == 0 {
-        let line = state.line;
-        return State {
-            line,
-            at: state.at,
-            more: false,
-        };
+fn take_all(start: State, characters: &[u8], octets: &mut [u8], out: &mut [u8]) -> State {
+    let mut line = start.line;
+    let mut at = start.at;
+    let mut i = 0;
+    while i < characters.len() {
+        let taken = take_line(line, characters, i, octets);
+        line = taken.line;
+        i = taken.next;
+        if i < characters.len() {
+            at = end_line(line, octets, out, at);
+            line = Line::start();
+            i += 1;
+        }
     }
-    take_all(state, &block[..n], octets, space, out)
+    State { line, at }
 }
 
-// A proved loop has to end, and nothing says that the input does: the loop counts its turns down, from a number that no run uses up.
-fn read_all(block: &mut [u8], octets: &mut [u8], space: &mut [u8], out: &mut [u8]) -> State {
+// Takes the input to its end; a read error counts as its end. A proved loop has to end, and nothing says that the input does: the loop counts its
+// turns, up to a number that no run reaches.
+fn read_all(block: &mut [u8], octets: &mut [u8], out: &mut [u8]) -> State {
     let mut state = State {
         line: Line::start(),
         at: 0,
-        more: true,
     };
-    let mut turns = u64::MAX;
-    while turns > 0 && state.more {
-        state = read_some(state, block, octets, space, out);
-        turns -= 1;
+    for _ in 0..u64::MAX {
+        let n = io::read_full(STDIN_FILENO, block);
+        if n == 0 {
+            return state;
+        }
+        state = take_all(state, &block[..n], octets, out);
     }
     state
 }
 
-// Whether a character has come since the last line feed.
-fn has_begun(line: Line) -> bool {
-    (0 < line.count) | line.malformed | (line.high != Line::NONE)
-}
-
-fn end_input(state: State, octets: &[u8], space: &mut [u8], out: &mut [u8]) -> State {
-    if has_begun(state.line) {
-        return end_line(state, octets, space, out);
+// Answers a last line that no line feed ended.
+fn end_input(state: State, octets: &[u8], out: &mut [u8]) -> usize {
+    let line = state.line;
+    if (0 < line.count) | line.malformed | (line.high != Line::NONE) {
+        return end_line(line, octets, out, state.at);
     }
-    state
+    state.at
 }
 
 fn main() {
     let mut block = io::large_buffer();
     let mut octets = [0u8; 128];
-    let mut space = [0u8; 80];
     let mut out = io::large_buffer();
-    let state = read_all(&mut block, &mut octets, &mut space, &mut out);
-    let ended = end_input(state, &octets, &mut space, &mut out);
-    output::flush(&out, ended.at);
+    let state = read_all(&mut block, &mut octets, &mut out);
+    let end = end_input(state, &octets, &mut out);
+    output::flush(&out, end);
 }

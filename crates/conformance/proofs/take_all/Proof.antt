@@ -1,5 +1,5 @@
--- `conformance::take_all` is safe and ends: the index stays within the characters. Assumes nothing.
-use Prim.Native.Nat.{_≤_, _-_}
+-- `conformance::take_all` is safe and ends: each turn takes a line feed or the last character. Assumes nothing.
+use Prim.Native.Nat.{_-_}
 use mathlib.Core.Path.{_≡_}
 use lib.ListN.{length}
 use borrow.Author.Needs.{needs}
@@ -7,10 +7,10 @@ use Rattle.conformance.proofs.take_all.Statement.{statement}
 use Rattle.conformance.proofs.take_all.Tie as tie
 
 abbrev Inv-loop : tie.InvT-loop
-Inv-loop characters octets₀ space₀ out₀ state₀ i₀ octets space out state i = (i ≤ length characters) × (length octets ≡ length octets₀) × (length space ≡ length space₀) × (length out ≡ length out₀)
+Inv-loop characters octets₀ out₀ line₀ at₀ i₀ octets out line at i = (length octets ≡ length octets₀) × (length out ≡ length out₀)
 
 abbrev μ-loop : tie.MeasureT-loop
-μ-loop characters octets₀ space₀ out₀ state₀ i₀ octets space out state i = length characters - i
+μ-loop characters octets₀ out₀ line₀ at₀ i₀ octets out line at i = length characters - i
 
 pub take-all-spec : {M : Type 1} → statement M
 take-all-spec =
@@ -19,8 +19,10 @@ take-all-spec =
     Inv-loop
     μ-loop
     (λ c. search needs)
-    (λ c. search needs)
     (λ c κs. search needs)
+    (λ c κs. search needs)
+    (λ c κs. search needs)
+    (λ c. search needs)
     (λ c. search needs)
     (λ c. search needs)
     (λ c. search needs)

@@ -7,10 +7,10 @@ use Rattle.conformance.proofs.output.put_octets.Statement.{statement}
 use Rattle.conformance.proofs.output.put_octets.Tie as tie
 
 abbrev Inv-loop : tie.InvT-loop
-Inv-loop out₀ at octets end₀ i₀ out end i = (i ≤ length octets) × (length out ≡ length out₀)
+Inv-loop out₀ at octets count end₀ i₀ out end i = (i ≤ count) × (length out ≡ length out₀)
 
 abbrev μ-loop : tie.MeasureT-loop
-μ-loop out₀ at octets end₀ i₀ out end i = length octets - i
+μ-loop out₀ at octets count end₀ i₀ out end i = count - i
 
 pub put-octets-spec : {M : Type 1} → statement M
 put-octets-spec =
@@ -18,6 +18,7 @@ put-octets-spec =
     (tie.spec
     Inv-loop
     μ-loop
+    (λ c. search needs)
     (λ c. search needs)
     (λ c. search needs)
     (λ c κs. search needs)

@@ -1,0 +1,113 @@
+// The octets of an answer: the values of a call in order, then the first octets of the buffer that was lent to it.
+ghost use Prim.Native.Nat.{_≤_};
+use client::Client;
+use client::Phase;
+use packet::Fields;
+
+// The longest values, those of operation 03, have 51 octets.
+pub(crate) struct Answer {
+    pub(crate) values: [u8; 64],
+    pub(crate) count: usize,
+    pub(crate) lent: [u8; 80],
+    pub(crate) lent_count: usize,
+}
+
+fn phase_octet(phase: Phase) -> u8 {
+    match phase {
+        Phase::Idle => 0,
+        Phase::Waiting => 1,
+        Phase::Stopped => 2,
+    }
+}
+
+impl Answer {
+    // An answer of one octet.
+    pub(crate) fn number(number: u8) -> Answer {
+        let mut values = [0u8; 64];
+        values[0] = number;
+        Answer {
+            values,
+            count: 1,
+            lent: [0u8; 80],
+            lent_count: 0,
+        }
+    }
+
+    pub(crate) fn malformed() -> Answer {
+        Answer::number(refusals::LINE_MALFORMED)
+    }
+
+    // This answer to a line that is well formed, and to any other the number for a malformed one.
+    pub(crate) fn if_well_formed(self, well_formed: bool) -> Answer {
+        if well_formed {
+            self
+        } else {
+            Answer::malformed()
+        }
+    }
+
+    // The highest octets of x, where there is room for all eight. What comes after overwrites the others.
+    fn with_highest(self, x: u64, count: usize) -> Answer
+        requires { ⌜ count ≤ 8 ⌝ }
+    {
+        let at = self.count;
+        if 56 < at {
+            return self;
+        }
+        let mut next = self;
+        let mut values = self.values;
+        octets::put64(&mut values, at, x);
+        next.values = values;
+        next.count = at + count;
+        next
+    }
+
+    pub(crate) fn with8(self, x: u8) -> Answer {
+        self.with_highest((x as u64) * 0x100_0000_0000_0000, 1)
+    }
+
+    pub(crate) fn with32(self, x: u32) -> Answer {
+        self.with_highest((x as u64) * 0x1_0000_0000, 4)
+    }
+
+    pub(crate) fn with64(self, x: u64) -> Answer {
+        self.with_highest(x, 8)
+    }
+
+    pub(crate) fn with_signed64(self, x: i64) -> Answer {
+        self.with64(octets::bits64(x))
+    }
+
+    pub(crate) fn with_record(self, client: Client) -> Answer {
+        let phase = client.phase;
+        self.with8(phase_octet(phase))
+            .with64(client.transmit.0)
+            .with8(client.version)
+            .with8(client.asked as u8)
+            .with64(client.uptime)
+            .with8(client.exponent)
+    }
+
+    pub(crate) fn with_fields(self, fields: Fields) -> Answer {
+        self.with8(fields.leap)
+            .with8(fields.version)
+            .with8(fields.mode)
+            .with8(fields.stratum)
+            .with8(fields.poll)
+            .with8(octets::bits8(fields.precision))
+            .with32(octets::bits32(fields.root_delay))
+            .with32(fields.root_dispersion)
+            .with32(fields.identifier)
+            .with64(fields.reference.0)
+            .with64(fields.originate.0)
+            .with64(fields.receive.0)
+            .with64(fields.transmit.0)
+    }
+
+    pub(crate) fn with_lent(self, lent: [u8; 80], count: usize) -> Answer {
+        let mut next = self;
+        next.lent = lent;
+        next.lent_count = count;
+        next
+    }
+}
