@@ -4,12 +4,10 @@ use client::Client;
 use client::Phase;
 use packet::Fields;
 
-// The longest values, those of operation 03, have 51 octets.
+// The longest answer, that of operation 08, has 101 octets.
 pub(crate) struct Answer {
-    pub(crate) values: [u8; 64],
+    pub(crate) octets: [u8; 128],
     pub(crate) count: usize,
-    pub(crate) lent: [u8; 80],
-    pub(crate) lent_count: usize,
 }
 
 fn phase_octet(phase: Phase) -> u8 {
@@ -23,14 +21,9 @@ fn phase_octet(phase: Phase) -> u8 {
 impl Answer {
     // An answer of one octet.
     pub(crate) fn number(number: u8) -> Answer {
-        let mut values = [0u8; 64];
-        values[0] = number;
-        Answer {
-            values,
-            count: 1,
-            lent: [0u8; 80],
-            lent_count: 0,
-        }
+        let mut octets = [0u8; 128];
+        octets[0] = number;
+        Answer { octets, count: 1 }
     }
 
     pub(crate) fn malformed() -> Answer {
@@ -51,15 +44,15 @@ impl Answer {
         requires { ⌜ count ≤ 8 ⌝ }
     {
         let at = self.count;
-        if 56 < at {
+        if 120 < at {
             return self;
         }
-        let mut next = self;
-        let mut values = self.values;
-        octets::put64(&mut values, at, x);
-        next.values = values;
-        next.count = at + count;
-        next
+        let mut octets = self.octets;
+        octets::put64(&mut octets, at, x);
+        Answer {
+            octets,
+            count: at + count,
+        }
     }
 
     pub(crate) fn with8(self, x: u8) -> Answer {
@@ -104,10 +97,21 @@ impl Answer {
             .with64(fields.transmit.0)
     }
 
-    pub(crate) fn with_lent(self, lent: [u8; 80], count: usize) -> Answer {
-        let mut next = self;
-        next.lent = lent;
-        next.lent_count = count;
-        next
+    // The first octets of a buffer, where there is room for all of it.
+    pub(crate) fn with_lent(self, lent: [u8; 80], count: usize) -> Answer
+        requires { ⌜ count ≤ 80 ⌝ }
+    {
+        let at = self.count;
+        if 48 < at {
+            return self;
+        }
+        let mut octets = self.octets;
+        for i in 0..count {
+            octets[at + i] = lent[i];
+        }
+        Answer {
+            octets,
+            count: at + count,
+        }
     }
 }

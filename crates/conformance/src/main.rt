@@ -8,7 +8,6 @@ mod packets;
 mod replies;
 mod times;
 
-ghost use Prim.Native.Nat.{_≤_};
 use answers::Answer;
 use input::has_record;
 use input::octet;
@@ -20,12 +19,6 @@ use lines::Line;
 struct State {
     line: Line,
     at: usize,
-}
-
-// The line after some characters, and the index of the next one.
-struct Taken {
-    line: Line,
-    next: usize,
 }
 
 // The answer to a line of these octets.
@@ -60,20 +53,7 @@ fn answer_line(line: Line, octets: &[u8]) -> Answer {
 }
 
 fn end_line(line: Line, octets: &[u8], out: &mut [u8], at: usize) -> usize {
-    output::put_line(out, at, answer_line(line, octets))
-}
-
-// Takes characters up to a line feed or the end.
-fn take_line(start: Line, characters: &[u8], from: usize, octets: &mut [u8]) -> Taken
-    ensures { λ r. ⌜ from ≤ r .next ⌝ }
-{
-    let mut line = start;
-    let mut i = from;
-    while i < characters.len() && characters[i] != b'\n' {
-        line = line.push(octets, characters[i]);
-        i += 1;
-    }
-    Taken { line, next: i }
+    output::put_answer(out, at, answer_line(line, octets))
 }
 
 fn take_all(start: State, characters: &[u8], octets: &mut [u8], out: &mut [u8]) -> State {
@@ -81,9 +61,9 @@ fn take_all(start: State, characters: &[u8], octets: &mut [u8], out: &mut [u8]) 
     let mut at = start.at;
     let mut i = 0;
     while i < characters.len() {
-        let taken = take_line(line, characters, i, octets);
+        let taken = line.take(octets, characters, i);
         line = taken.line;
-        i = taken.next;
+        i = taken.at;
         if i < characters.len() {
             at = end_line(line, octets, out, at);
             line = Line::start();
@@ -113,7 +93,7 @@ fn read_all(block: &mut [u8], octets: &mut [u8], out: &mut [u8]) -> State {
 // Answers a last line that no line feed ended.
 fn end_input(state: State, octets: &[u8], out: &mut [u8]) -> usize {
     let line = state.line;
-    if (0 < line.count) | line.malformed | (line.high != Line::NONE) {
+    if line.has_begun() {
         return end_line(line, octets, out, state.at);
     }
     state.at

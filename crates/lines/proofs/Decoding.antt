@@ -3,14 +3,16 @@ use Prim.Native.Nat.{ℕ, _+_, _*_, _≤_, _<_}
 use native.Mathlib.Numerals.{add-one}
 use native.Mathlib.Omega.{arith}
 use mathlib.Core.Path.{_≡_, refl, sym, ap, _∙_}
-use mathlib.Core.Bool.{Bool, true, false}
+use mathlib.Core.Bool.{Bool, true, false, _||_, or-true}
 use mathlib.Core.List.{List, [], _∷_, _++_, append-assoc, append-nil}
 use borrow.Author.Tests.{leb-true, leb-false, lt-ltb, le-ltb, le-leb, lt-leb, ne-eqb}
 use lib.Dec.{leb}
 use lib.ListN.{length, take, set, length-append, length-set}
 use lib.Seq.{take-suc-set, length-take-le}
-use Rattle.lines.specs.Lines.{digitOf, pushed, pushedBuffer}
-use Rattle.lines.specs.Decoding.{Frame, octets, malformed, before, decode, atMost, Held, next, after, read, Decoding}
+use Rattle.lines.specs.declared.Line.{Line}
+use Rattle.lines.specs.Lines.{digitOf, pushed, pushedBuffer, hasBegun}
+use Rattle.lines.specs.Decoding.{Frame, octets, malformed, before, decode, atMost, Held, next, after, read, isSome, Decoding}
+use Rattle.lines.proofs.Digits.{or-right}
 
 -- xs in front of a frame's octets
 abbrev front : List ℕ → Frame → Frame
@@ -91,5 +93,31 @@ from k b (a ∷ c ∷ cs) h = go (leb 16 (digitOf a)) (leb 16 (digitOf c)) (leb 
         ∙ ih (rw length-set (omega arith))
         ∙ rw (length-set, add-one, take-suc-set b k v n, shift, lt-ltb (digitOf a) 16 l, lt-ltb (digitOf c) 16 m)
 
+-- a character that has come is known, whatever the line was
+pushed-begun : (line : Line) (b : List ℕ) (c : ℕ) → hasBegun (pushed line b c) ≡ true
+unfolding hasBegun pushed
+pushed-begun line b c = go (line .malformed || leb 16 (digitOf c)) (leb 16 (line .high)) (leb (length b) (line .count)) refl refl refl
+  where
+    go : (s t u : Bool) → line .malformed || leb 16 (digitOf c) ≡ s → leb 16 (line .high) ≡ t → leb (length b) (line .count) ≡ u
+        → hasBegun (pushed line b c) ≡ true
+    go true t u e f g = rw (e, or-true)
+    go false true u e f g =
+        let digit = leb-false 16 (digitOf c) (or-right (line .malformed) (leb 16 (digitOf c)) e) in
+        rw (e, f, ne-eqb (digitOf c) 16 (λ q. omega arith), or-true)
+    go false false true e f g = rw (e, f, g, or-true)
+    go false false false e f g = rw (e, f, g, lt-ltb 0 (line .count + 1) (omega arith))
+
+begun : (h : Held) (cs : List ℕ) → hasBegun (h .line) ≡ true → hasBegun (after h cs .line) ≡ true
+begun h [] e = e
+begun h (c ∷ cs) e = begun (next h c) cs (pushed-begun (h .line) (h .buffer) c)
+
+some : (h : Held) (cs : List ℕ) → hasBegun (h .line) ≡ false → hasBegun (after h cs .line) ≡ isSome cs
+some h [] e = e
+some h (c ∷ cs) e = begun (next h c) cs (pushed-begun (h .line) (h .buffer) c)
+
 pub decoding : Decoding
-decoding b cs = from 0 b cs (omega arith) ∙ ap (atMost (length b)) (front-nil (decode cs))
+unfolding hasBegun
+decoding = record {
+  reads = λ b cs. from 0 b cs (omega arith) ∙ ap (atMost (length b)) (front-nil (decode cs));
+  begins = λ b cs. some (held 0 16 false b) cs refl;
+}

@@ -1,1 +1,4 @@
+pub mod Digits
+pub mod ToLineFeed
+pub mod Written
 pub mod Decoding

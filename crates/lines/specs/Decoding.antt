@@ -1,12 +1,13 @@
 -- What the octets of a whole line are: two digits an octet. proofs/Decoding.antt proves `Decoding`.
 use Prim.Native.Nat.{ℕ, _+_, _*_}
 use mathlib.Core.Path.{_≡_}
-use mathlib.Core.Bool.{cond, _&&_}
+use mathlib.Core.Bool.{Bool, true, false, not, cond, _&&_}
 use mathlib.Core.List.{List, [], _∷_}
-use lib.Dec.{ltb, leb}
-use lib.ListN.{length, take}
+use lib.Dec.{ltb, leb, eqb}
+use lib.ListN.{length, take, drop, getD}
 use Rattle.lines.specs.declared.Line.{Line}
-use Rattle.lines.specs.Lines.{digitOf, start, pushed, pushedBuffer, isWhole}
+use Rattle.lines.specs.declared.Taken.{Taken}
+use Rattle.lines.specs.Lines.{digitOf, start, pushed, pushedBuffer, isWhole, hasBegun}
 
 pub data Frame : Type 0 where
   octets : List ℕ → Frame
@@ -39,9 +40,37 @@ abbrev pub after : Held → List ℕ → Held
 after h [] = h
 after h (c ∷ cs) = after (next h c) cs
 
+-- the characters before a line feed
+abbrev pub toLineFeed : List ℕ → List ℕ
+toLineFeed [] = []
+toLineFeed (c ∷ cs) = cond (eqb c 10) [] (c ∷ toLineFeed cs)
+
+-- at index i stands a character that is no line feed
+abbrev pub inLine : List ℕ → ℕ → Bool
+inLine characters i = ltb i (length characters) && not (eqb (getD characters i 0) 10)
+
+-- the line and its buffer after the characters from index at on, up to a line feed or to the last one
+abbrev pub heldAfter : Line → List ℕ → List ℕ → ℕ → Held
+heldAfter line buffer characters at = after (record { line = line; buffer = buffer }) (toLineFeed (drop at characters))
+
+unfoldable pub taken : Line → List ℕ → List ℕ → ℕ → Taken
+taken line buffer characters at = record {
+  line = heldAfter line buffer characters at .line;
+  at = at + length (toLineFeed (drop at characters));
+}
+
+unfoldable pub takenBuffer : Line → List ℕ → List ℕ → ℕ → List ℕ
+takenBuffer line buffer characters at = heldAfter line buffer characters at .buffer
+
 abbrev pub read : Held → Frame
 read h = cond (isWhole (h .line)) (octets (take (h .line .count) (h .buffer))) malformed
 
--- whatever the characters and the buffer, what is read after them is what they decode to, if it has room in the buffer
-abbrev pub Decoding : Type 0
-Decoding = (buffer characters : List ℕ) → read (after (record { line = start; buffer = buffer }) characters) ≡ atMost (length buffer) (decode characters)
+abbrev pub isSome : List ℕ → Bool
+isSome [] = false
+isSome (c ∷ cs) = true
+
+-- whatever the characters and the buffer, what is read after them is what they decode to, if it has room in the buffer; and a line has begun where a
+-- character has come
+pub record Decoding : Type 0 where
+  pub reads : (buffer characters : List ℕ) → read (after (record { line = start; buffer = buffer }) characters) ≡ atMost (length buffer) (decode characters)
+  pub begins : (buffer characters : List ℕ) → hasBegun (after (record { line = start; buffer = buffer }) characters .line) ≡ isSome characters

@@ -1,20 +1,24 @@
--- Lines of hexadecimal (document 01, "Replay lines").
-use Prim.Native.Nat.{ℕ, _+_, _-_, _*_, _/_, _%_}
-use mathlib.Core.Bool.{Bool, true, false, not, cond, _&&_}
+-- The characters of a line of hexadecimal, as they come in (document 01, "Replay lines").
+use Prim.Native.Nat.{ℕ, _+_, _-_, _*_}
+use mathlib.Core.Bool.{Bool, true, false, not, cond, _&&_, _||_}
 use mathlib.Core.List.{List}
 use lib.Dec.{ltb, leb, eqb}
 use lib.ListN.{length, set}
 use Rattle.lines.specs.declared.Line.{Line}
 
--- the value of a hexadecimal digit of either case, and 16 for any other character: 0 to 9 are 48 to 57, A to F 65 to 70, a to f 97 to 102
+abbrev pub between : ℕ → ℕ → ℕ → Bool
+between low high c = leb low c && leb c high
+
+-- the value of a hexadecimal digit of either case, and 16 for any other character
 unfoldable pub digitOf : ℕ → ℕ
 digitOf c =
-    cond (ltb c 48) 16
-    (cond (leb c 57) (c - 48)
-    (cond (ltb c 65) 16
-    (cond (leb c 70) (c - 55)
-    (cond (ltb c 97) 16
-    (cond (leb c 102) (c - 87) 16)))))
+    cond (between 48 57 c) (c - 48)  -- 0 to 9
+    (cond (between 65 70 c) (c - 55)  -- A to F
+    (cond (between 97 102 c) (c - 87)  -- a to f
+    16))
+
+abbrev pub isDigit : ℕ → Bool
+isDigit c = between 48 57 c || between 65 70 c || between 97 102 c
 
 abbrev pub start : Line
 start = record { count = 0; high = 16; malformed = false }
@@ -22,36 +26,30 @@ start = record { count = 0; high = 16; malformed = false }
 abbrev pub refused : Line → Line
 refused line = record { count = line .count; high = line .high; malformed = true }
 
--- one more character of a line, with the buffer that holds its octets: what is malformed stays so, as is a character that is no digit; the first digit of a
--- pair waits; the second makes an octet, for which there must be room
+-- the second digit of a pair makes an octet, for which there must be room in the buffer
+abbrev pub paired : Line → List ℕ → Line
+paired line buffer = cond (leb (length buffer) (line .count)) (refused line) (record { count = line .count + 1; high = 16; malformed = false })
+
+abbrev pub pairedBuffer : Line → List ℕ → ℕ → List ℕ
+pairedBuffer line buffer low = cond (leb (length buffer) (line .count)) buffer (set buffer (line .count) (line .high * 16 + low))
+
+-- one more character of a line: what is malformed stays so, and a character that is no digit makes it so; the first digit of a pair waits
 unfoldable pub pushed : Line → List ℕ → ℕ → Line
 pushed line buffer c =
-    cond (line .malformed) line
-    (cond (leb 16 (digitOf c)) (refused line)
+    cond (line .malformed || leb 16 (digitOf c)) (refused line)
     (cond (leb 16 (line .high)) (record { count = line .count; high = digitOf c; malformed = false })
-    (cond (leb (length buffer) (line .count)) (refused line)
-    (record { count = line .count + 1; high = 16; malformed = false }))))
+    (paired line buffer))
 
 unfoldable pub pushedBuffer : Line → List ℕ → ℕ → List ℕ
 pushedBuffer line buffer c =
-    cond (line .malformed) buffer
-    (cond (leb 16 (digitOf c)) buffer
+    cond (line .malformed || leb 16 (digitOf c)) buffer
     (cond (leb 16 (line .high)) buffer
-    (cond (leb (length buffer) (line .count)) buffer
-    (set buffer (line .count) (line .high * 16 + digitOf c)))))
+    (pairedBuffer line buffer (digitOf c)))
 
 -- no digit waits for its second one, and nothing was malformed
 abbrev pub isWhole : Line → Bool
 isWhole line = not (line .malformed) && eqb (line .high) 16
 
--- the character of a digit's value, in upper case
-unfoldable pub characterOf : ℕ → ℕ
-characterOf value = cond (ltb (value % 16) 10) (48 + value % 16) (55 + value % 16)
-
--- two characters of an octet from index at on, where there is room for them
-unfoldable pub putAt : List ℕ → ℕ → ℕ
-putAt output at = cond (leb (at + 2) (length output)) (at + 2) at
-
-unfoldable pub putOctet : List ℕ → ℕ → ℕ → List ℕ
-putOctet output at octet =
-    cond (leb (at + 2) (length output)) (set (set output at (characterOf (octet / 16))) (at + 1) (characterOf octet)) output
+-- a character has come
+unfoldable pub hasBegun : Line → Bool
+hasBegun line = ltb 0 (line .count) || not (eqb (line .high) 16) || line .malformed

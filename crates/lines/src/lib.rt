@@ -1,6 +1,10 @@
-// Lines of hexadecimal: characters to octets, as they come in, and octets to characters.
+// Lines of hexadecimal: characters to octets, as they come in.
 ghost use mathlib.Core.Path.{_≡_};
-ghost use Rattle.lines.specs.Lines.{digitOf, start, refused, pushed, pushedBuffer, isWhole, characterOf, putAt, putOctet};
+ghost use Prim.Native.Nat.{_<_};
+ghost use Rattle.lines.specs.Lines.{digitOf, isDigit, start, refused, paired, pairedBuffer, pushed, pushedBuffer, isWhole, hasBegun};
+ghost use Rattle.lines.specs.Decoding.{inLine, taken, takenBuffer};
+
+pub mod text;
 
 // What is known of a line so far: how many octets of it stand in a lent buffer, the digit that waits for its second one, and whether a character
 // was no digit or there was no room.
@@ -10,29 +14,35 @@ pub struct Line {
     pub malformed: bool,
 }
 
-// The value of a digit of either case, and 16 for any other character.
+// A line after some characters, and the index of the character that comes next.
+pub struct Taken {
+    pub line: Line,
+    pub at: usize,
+}
+
+fn is_digit(c: u8) -> bool
+    ensures { λ r. ⌜ r ≡ isDigit c ⌝ }
+{
+    ((b'0' <= c) & (c <= b'9')) | ((b'A' <= c) & (c <= b'F')) | ((b'a' <= c) & (c <= b'f'))
+}
+
+// The value of a digit of either case, and 16 for any other character. The letters of both cases end in the bits of 1 to 6, and no branch tells them from
+// the other digits: the processor could not foresee it.
 pub fn digit(c: u8) -> u8
     ensures { λ r. ⌜ r ≡ digitOf c ⌝ }
 {
-    if c < b'0' {
-        return Line::NONE;
+    if is_digit(c) {
+        c % 16 + c / 64 * 9
+    } else {
+        Line::NONE
     }
-    if c <= b'9' {
-        return c - b'0';
-    }
-    if c < b'A' {
-        return Line::NONE;
-    }
-    if c <= b'F' {
-        return c - b'A' + 10;
-    }
-    if c < b'a' {
-        return Line::NONE;
-    }
-    if c <= b'f' {
-        return c - b'a' + 10;
-    }
-    Line::NONE
+}
+
+// At index i stands a character that is no line feed.
+fn in_line(characters: &[u8], i: usize) -> bool
+    ensures { λ r. ⌜ r ≡ inLine (now (characters .entry)) i ⌝ }
+{
+    i < characters.len() && characters[i] != b'\n'
 }
 
 impl Line {
@@ -50,25 +60,22 @@ impl Line {
         }
     }
 
-    // One more character, which is not the line's end.
-    pub fn push(self, buffer: &mut [u8], c: u8) -> Line
-        ensures line { λ r. ⌜ r ≡ pushed self (now (buffer .entry)) c ⌝ }
-        ensures buffer { λ _. ⌜ now (buffer .exit) ≡ pushedBuffer self (now (buffer .entry)) c ⌝ }
+    fn refused(self) -> Line
+        ensures { λ r. ⌜ r ≡ refused self ⌝ }
     {
-        if self.malformed {
-            return self;
+        Line {
+            count: self.count,
+            high: self.high,
+            malformed: true,
         }
-        let low = digit(c);
-        if Line::NONE <= low {
-            return self.refused();
-        }
-        if Line::NONE <= self.high {
-            return Line {
-                count: self.count,
-                high: low,
-                malformed: false,
-            };
-        }
+    }
+
+    // The second digit of a pair.
+    fn paired(self, buffer: &mut [u8], low: u8) -> Line
+        requires { ⌜ (self .high < 16) × (low < 16) ⌝ }
+        ensures line { λ r. ⌜ r ≡ paired self (now (buffer .entry)) ⌝ }
+        ensures buffer { λ _. ⌜ now (buffer .exit) ≡ pairedBuffer self (now (buffer .entry)) low ⌝ }
+    {
         let at = self.count;
         if buffer.len() <= at {
             return self.refused();
@@ -81,14 +88,44 @@ impl Line {
         }
     }
 
-    fn refused(self) -> Line
-        ensures { λ r. ⌜ r ≡ refused self ⌝ }
+    // One more character, which is not the line's end.
+    pub fn push(self, buffer: &mut [u8], c: u8) -> Line
+        ensures line { λ r. ⌜ r ≡ pushed self (now (buffer .entry)) c ⌝ }
+        ensures buffer { λ _. ⌜ now (buffer .exit) ≡ pushedBuffer self (now (buffer .entry)) c ⌝ }
     {
-        Line {
-            count: self.count,
-            high: self.high,
-            malformed: true,
+        let value = digit(c);
+        if self.malformed | (Line::NONE <= value) {
+            return self.refused();
         }
+        if Line::NONE <= self.high {
+            return Line {
+                count: self.count,
+                high: value,
+                malformed: false,
+            };
+        }
+        self.paired(buffer, value)
+    }
+
+    // Takes the characters from index at on, up to a line feed or to the last one.
+    pub fn take(self, buffer: &mut [u8], characters: &[u8], at: usize) -> Taken
+        ensures line { λ r. ⌜ r ≡ taken self (now (buffer .entry)) (now (characters .entry)) at ⌝ }
+        ensures buffer { λ _. ⌜ now (buffer .exit) ≡ takenBuffer self (now (buffer .entry)) (now (characters .entry)) at ⌝ }
+    {
+        let mut line = self;
+        let mut i = at;
+        while in_line(characters, i) {
+            line = line.push(buffer, characters[i]);
+            i += 1;
+        }
+        Taken { line, at: i }
+    }
+
+    // A character of the line has come.
+    pub fn has_begun(self) -> bool
+        ensures { λ r. ⌜ r ≡ hasBegun self ⌝ }
+    {
+        (0 < self.count) | (self.high != Line::NONE) | self.malformed
     }
 
     // The line is whole: no digit waits, and nothing was malformed.
@@ -97,29 +134,4 @@ impl Line {
     {
         !self.malformed & (self.high == Line::NONE)
     }
-}
-
-// The character of a digit's value, in upper case.
-pub fn character(value: u8) -> u8
-    ensures { λ r. ⌜ r ≡ characterOf value ⌝ }
-{
-    let v = value % 16;
-    if v < 10 { b'0' + v } else { b'A' + (v - 10) }
-}
-
-// Puts an octet's two characters into the output from index at on, and answers the index after them; where there is no room, puts nothing and answers
-// at.
-pub fn put_octet(output: &mut [u8], at: usize, octet: u8) -> usize
-    ensures next { λ r. ⌜ r ≡ putAt (now (output .entry)) at ⌝ }
-    ensures output { λ _. ⌜ now (output .exit) ≡ putOctet (now (output .entry)) at octet ⌝ }
-{
-    if output.len() < 2 {
-        return at;
-    }
-    if output.len() - 2 < at {
-        return at;
-    }
-    output[at] = character(octet / 16);
-    output[at + 1] = character(octet);
-    at + 2
 }

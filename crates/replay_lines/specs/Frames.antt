@@ -1,5 +1,5 @@
 -- What a frame of a replay is, and the octets that answer it (document 01, "Replay lines").
-use Prim.Native.Nat.{ℕ, _/_}
+use Prim.Native.Nat.{ℕ}
 use mathlib.Core.Bool.{Bool, cond, _&&_}
 use mathlib.Core.List.{List, [], _∷_, _++_}
 use lib.Dec.{eqb, leb}
@@ -15,7 +15,6 @@ use Rattle.client.specs.declared.ArrivalAnswer.{ArrivalAnswer}
 use Rattle.client.specs.Ask.{asked, askedBuffer}
 use Rattle.client.specs.Arrival.{arrived}
 use Rattle.client.specs.GiveUp.{gaveUp}
-use Rattle.lines.specs.Lines.{characterOf}
 use Rattle.lines.specs.Decoding as decoding
 use Rattle.lines.specs.Decoding.{Frame}
 
@@ -31,9 +30,12 @@ uptimeIn frame = bigEndian (part 1 8 frame)
 abbrev pub clockIn : List ℕ → Timestamp
 clockIn frame = timestamp (bigEndian (part 9 8 frame))
 
+abbrev pub hasLength : ℕ → ℕ → List ℕ → Bool
+hasLength low high frame = leb low (length frame) && leb (length frame) high
+
 -- a frame that begins with this octet and has from low to high octets
 abbrev pub isFrame : ℕ → ℕ → ℕ → List ℕ → Bool
-isFrame first low high frame = eqb (getD frame 0 0) first && leb low (length frame) && leb (length frame) high
+isFrame first low high frame = hasLength low high frame && eqb (getD frame 0 0) first
 
 -- the client's buffer has 48 octets
 abbrev pub buffer : List ℕ
@@ -54,26 +56,37 @@ arrivalOctets (ArrivalAnswer.Refused n) = n ∷ []
 arrivalOctets (ArrivalAnswer.Accepted offset half delay) = 0 ∷ octets 8 (bits 64 offset) ++ (half ∷ octets 8 (bits 64 delay))
 arrivalOctets (ArrivalAnswer.Kiss code row) = 0xE0 ∷ octets 4 code
 
--- an ask is A1, uptime and clock, and version 4 is used; an arrival is A2, uptime, clock and a packet of 0 to 68 octets; a give-up is A3, uptime and clock;
--- anything else is malformed and changes nothing
+-- what the client answers to each kind of frame; version 4 is used
+abbrev pub ask : Client → List ℕ → Reply
+ask c frame = record {
+  client = asked c 48 4 (clockIn frame) (uptimeIn frame) .client;
+  octets = askOctets (asked c 48 4 (clockIn frame) (uptimeIn frame) .answer) (askedBuffer c buffer 4 (clockIn frame) (uptimeIn frame));
+}
+
+abbrev pub arrival : Client → List ℕ → Reply
+arrival c frame = record {
+  client = arrived c (drop 17 frame) (clockIn frame) .client;
+  octets = arrivalOctets (arrived c (drop 17 frame) (clockIn frame) .answer);
+}
+
+abbrev pub giveUp : Client → List ℕ → Reply
+giveUp c frame = record {
+  client = gaveUp c (uptimeIn frame) .client;
+  octets = giveUpOctets (gaveUp c (uptimeIn frame) .answer);
+}
+
+-- a malformed line changes nothing
+abbrev pub refuse : Client → Reply
+refuse c = record { client = c; octets = line-malformed ∷ [] }
+
+-- an ask is A1, uptime and clock; an arrival A2, uptime, clock and a packet of 0 to 68 octets; a give-up A3, uptime and clock; anything else is malformed
 unfoldable pub answered : Client → List ℕ → Reply
 answered c frame =
-    cond (isFrame 0xA1 17 17 frame)
-    (record {
-      client = asked c 48 4 (clockIn frame) (uptimeIn frame) .client;
-      octets = askOctets (asked c 48 4 (clockIn frame) (uptimeIn frame) .answer) (askedBuffer c buffer 4 (clockIn frame) (uptimeIn frame));
-    })
-    (cond (isFrame 0xA2 17 85 frame)
-    (record { client = arrived c (drop 17 frame) (clockIn frame) .client; octets = arrivalOctets (arrived c (drop 17 frame) (clockIn frame) .answer) })
-    (cond (isFrame 0xA3 17 17 frame)
-    (record { client = gaveUp c (uptimeIn frame) .client; octets = giveUpOctets (gaveUp c (uptimeIn frame) .answer) })
-    (record { client = c; octets = line-malformed ∷ [] })))
+    cond (isFrame 0xA1 17 17 frame) (ask c frame)
+    (cond (isFrame 0xA2 17 85 frame) (arrival c frame)
+    (cond (isFrame 0xA3 17 17 frame) (giveUp c frame)
+    (refuse c)))
 
 abbrev pub answeredFrame : Client → Frame → Reply
 answeredFrame c (decoding.octets frame) = answered c frame
-answeredFrame c decoding.malformed = record { client = c; octets = line-malformed ∷ [] }
-
--- the answer to a line: two characters an octet, in upper case, and a line feed
-abbrev pub text : List ℕ → List ℕ
-text [] = 10 ∷ []
-text (x ∷ xs) = characterOf (x / 16) ∷ characterOf x ∷ text xs
+answeredFrame c decoding.malformed = refuse c

@@ -1,3 +1,5 @@
 pub mod Frames
 pub mod Replay
+pub mod Feed
 pub mod Pieces
+pub mod Progress

@@ -3,6 +3,7 @@ use Prim.Native.Nat.{_-_}
 use mathlib.Core.Path.{_≡_}
 use lib.ListN.{length}
 use borrow.Author.Needs.{needs}
+use Rattle.lines.proofs.ToLineFeed.{not-back}
 use Rattle.conformance.proofs.take_all.Statement.{statement}
 use Rattle.conformance.proofs.take_all.Tie as tie
 
@@ -11,6 +12,16 @@ Inv-loop characters octets₀ out₀ line₀ at₀ i₀ octets out line at i = (
 
 abbrev μ-loop : tie.MeasureT-loop
 μ-loop characters octets₀ out₀ line₀ at₀ i₀ octets out line at i = length characters - i
+
+loop-less : tie.Need-loop-less Inv-loop μ-loop
+loop-less c =
+    let t = c .before .before .before .before .before .before .before .before .before .before in
+    let l = t .before .before .before in
+    let on = not-back (l .loop .line) _ _ (l .loop .i) (t .take .result) (t .take .ensures .0) in
+    search needs
+
+loop-less-2 : tie.Need-loop-less-2 Inv-loop μ-loop
+loop-less-2 c = search needs
 
 pub take-all-spec : {M : Type 1} → statement M
 take-all-spec =
@@ -23,9 +34,9 @@ take-all-spec =
     (λ c κs. search needs)
     (λ c κs. search needs)
     (λ c. search needs)
+    loop-less
     (λ c. search needs)
-    (λ c. search needs)
-    (λ c. search needs)
+    loop-less-2
     (λ c. search needs)
     (λ c. search needs)
     (λ c. search needs)

@@ -1,0 +1,28 @@
+-- `conformance::answers::Answer::with_lent` is safe and ends: the index stays within the buffer. Assumes nothing.
+use Prim.Native.Nat.{_≤_, _-_}
+use borrow.Author.Needs.{needs}
+use Rattle.conformance.proofs.answers.Answer.with_lent.Statement.{statement}
+use Rattle.conformance.proofs.answers.Answer.with_lent.Tie as tie
+
+abbrev Inv-loop : tie.InvT-loop
+Inv-loop count lent at octets₀ i₀ octets i = i ≤ count
+
+abbrev μ-loop : tie.MeasureT-loop
+μ-loop count lent at octets₀ i₀ octets i = count - i
+
+pub with-lent-spec : {M : Type 1} → statement M
+with-lent-spec =
+    tie.close
+    (tie.spec
+    Inv-loop
+    μ-loop
+    (λ c. search needs)
+    (λ c. search needs)
+    (λ c. search needs)
+    (λ c. search needs)
+    (λ c. search needs)
+    (λ c. search needs)
+    (λ c. search needs)
+    (λ c. search needs)
+    (λ c. search needs)
+    (λ c. search needs))

@@ -1,0 +1,38 @@
+-- `replay_lines::frames::arrival` meets its contract. Assumes nothing.
+use Prim.Native.Nat.{_-_}
+use native.Mathlib.Omega.{arith}
+use mathlib.Core.Path.{ap, _∙_}
+use denote.Ref.{now}
+use lib.ListN.{length, drop, length-drop}
+use lib.Seq.{take-all}
+use borrow.Author.Needs.{needs}
+use Rattle.timestamp.specs.Timestamp.{timestamp}
+use Rattle.client.specs.Arrival.{arrived}
+use Rattle.octets.proofs.Slices.{number-room}
+use Rattle.replay_lines.specs.Frames.{arrivalOctets}
+use Rattle.replay_lines.proofs.frames.arrival.Statement.{statement}
+use Rattle.replay_lines.proofs.frames.arrival.Tie as tie
+
+returns : tie.Need-returns
+returns c =
+    let put = c .before .before .before .put-arrived .ensures in
+    let a = c .before .before .before .before .before in
+    let s = a .before .before .before .before .before in
+    let frame = now (s .args .frame) in
+    let clock = a .before .before .number64 .ensures ∙ number-room 8 frame 9 (omega arith) in
+    let packet = take-all (length frame - 17) (drop 17 frame) (rw length-drop (omega arith)) in
+    let next = a .arrival .ensures ∙ (λ i. arrived (s .args .client) (packet i) (timestamp (clock i))) in
+    (λ i. record { client = next i .client; octets = (put .0 ∙ ap (λ z. arrivalOctets (z .answer)) next) i }, put .1)
+
+pub arrival-spec : {M : Type 1} → statement M
+arrival-spec =
+    tie.close
+    (tie.spec
+    (λ c κs. search needs)
+    (λ c. search needs)
+    (λ c. search needs)
+    (λ c. search needs)
+    (λ c κs. search needs)
+    (λ c κs. search needs)
+    (λ c. search needs)
+    returns)

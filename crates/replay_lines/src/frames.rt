@@ -1,0 +1,195 @@
+// What the client answers to a frame: the number as one octet, and what follows it.
+ghost use mathlib.Core.Path.{_≡_};
+ghost use Prim.Native.Nat.{_≤_, min};
+ghost use Rattle.numbers.specs.Octets.{octets};
+ghost use Rattle.client.specs.declared.ArrivalAnswer.{ArrivalAnswer};
+ghost use mathlib.Core.List.{[], _∷_};
+ghost use lib.ListN.{length, take, drop};
+ghost use Rattle.refusals.specs.Numbers.{line-malformed};
+ghost use Rattle.replay_lines.specs.Frames.{askOctets, arrivalOctets, giveUpOctets, hasLength, isFrame, ask, arrival, giveUp, refuse, answered, answeredFrame};
+ghost use Rattle.replay_lines.specs.Feed.{frameOf};
+ghost use Rattle.replay_lines.specs.Progress.{made};
+use client::ArrivalAnswer;
+use client::CallAnswer;
+use client::Client;
+use lines::Line;
+use octets::number64;
+use octets::put32;
+use octets::put64;
+use timestamp::Timestamp;
+
+// The client's next record, and how many octets of the answer stand at the start of its buffer.
+pub(crate) struct Answered {
+    pub(crate) client: Client,
+    pub(crate) count: usize,
+}
+
+fn put_number(answer: &mut [u8], number: u8) -> usize
+    requires { ⌜ length (now answer) ≡ 49 ⌝ }
+    ensures { λ r. ⌜ take r (now (answer .exit)) ≡ number ∷ [] ⌝ }
+    ensures { λ r. ⌜ r ≤ 49 ⌝ }
+{
+    answer[0] = number;
+    1
+}
+
+// After an accepted ask the packet, which stands in its place already.
+fn put_asked(answer: &mut [u8], said: CallAnswer) -> usize
+    requires { ⌜ length (now answer) ≡ 49 ⌝ }
+    ensures { λ r. ⌜ take r (now (answer .exit)) ≡ askOctets said (drop 1 (now (answer .entry))) ⌝ }
+    ensures { λ r. ⌜ r ≤ 49 ⌝ }
+{
+    match said {
+        CallAnswer::Refused(n) => put_number(answer, n),
+        CallAnswer::Done => {
+            answer[0] = 0;
+            49
+        }
+    }
+}
+
+fn ask(client: Client, frame: &[u8], answer: &mut [u8]) -> Answered
+    requires { ⌜ (17 ≤ length (now frame)) × (length (now answer) ≡ 49) ⌝ }
+    ensures { λ r. ⌜ made r (now (answer .exit)) ≡ ask client (now (frame .entry)) ⌝ }
+    ensures { λ r. ⌜ r .count ≤ 49 ⌝ }
+{
+    let clock = Timestamp(number64(frame, 9));
+    let next = client.ask(&mut answer[1..49], 4, clock, number64(frame, 1));
+    let said = next.answer;
+    let count = put_asked(answer, said);
+    let client = next.client;
+    Answered { client, count }
+}
+
+fn give_up(client: Client, frame: &[u8], answer: &mut [u8]) -> Answered
+    requires { ⌜ (17 ≤ length (now frame)) × (length (now answer) ≡ 49) ⌝ }
+    ensures { λ r. ⌜ made r (now (answer .exit)) ≡ giveUp client (now (frame .entry)) ⌝ }
+    ensures { λ r. ⌜ r .count ≤ 49 ⌝ }
+{
+    let next = client.give_up(number64(frame, 1));
+    let said = next.answer;
+    let count = put_done(answer, said);
+    let client = next.client;
+    Answered { client, count }
+}
+
+fn put_done(answer: &mut [u8], said: CallAnswer) -> usize
+    requires { ⌜ length (now answer) ≡ 49 ⌝ }
+    ensures { λ r. ⌜ take r (now (answer .exit)) ≡ giveUpOctets said ⌝ }
+    ensures { λ r. ⌜ r ≤ 49 ⌝ }
+{
+    match said {
+        CallAnswer::Refused(n) => put_number(answer, n),
+        CallAnswer::Done => put_number(answer, 0),
+    }
+}
+
+fn put_measured(answer: &mut [u8], offset: i64, half: u8, delay: i64) -> usize
+    requires { ⌜ length (now answer) ≡ 49 ⌝ }
+    ensures { λ r. ⌜ take r (now (answer .exit)) ≡ arrivalOctets (ArrivalAnswer.Accepted offset half delay) ⌝ }
+    ensures { λ r. ⌜ r ≤ 49 ⌝ }
+{
+    answer[0] = 0;
+    put64(answer, 1, octets::bits64(offset));
+    answer[9] = half;
+    put64(answer, 10, octets::bits64(delay));
+    18
+}
+
+fn put_kiss(answer: &mut [u8], code: u32) -> usize
+    requires { ⌜ length (now answer) ≡ 49 ⌝ }
+    ensures { λ r. ⌜ take r (now (answer .exit)) ≡ 0xE0 ∷ octets 4 code ⌝ }
+    ensures { λ r. ⌜ r ≤ 49 ⌝ }
+{
+    answer[0] = 0xE0;
+    put32(answer, 1, code);
+    5
+}
+
+fn put_arrived(answer: &mut [u8], said: ArrivalAnswer) -> usize
+    requires { ⌜ length (now answer) ≡ 49 ⌝ }
+    ensures { λ r. ⌜ take r (now (answer .exit)) ≡ arrivalOctets said ⌝ }
+    ensures { λ r. ⌜ r ≤ 49 ⌝ }
+{
+    match said {
+        ArrivalAnswer::Refused(n) => put_number(answer, n),
+        ArrivalAnswer::Accepted {
+            offset,
+            half,
+            delay,
+        } => put_measured(answer, offset, half, delay),
+        ArrivalAnswer::Kiss { code, row } => put_kiss(answer, code),
+    }
+}
+
+fn arrival(client: Client, frame: &[u8], answer: &mut [u8]) -> Answered
+    requires { ⌜ (17 ≤ length (now frame)) × (length (now answer) ≡ 49) ⌝ }
+    ensures { λ r. ⌜ made r (now (answer .exit)) ≡ arrival client (now (frame .entry)) ⌝ }
+    ensures { λ r. ⌜ r .count ≤ 49 ⌝ }
+{
+    let clock = Timestamp(number64(frame, 9));
+    let next = client.arrival(&frame[17..], clock);
+    let said = next.answer;
+    let count = put_arrived(answer, said);
+    let client = next.client;
+    Answered { client, count }
+}
+
+fn refuse(client: Client, answer: &mut [u8]) -> Answered
+    requires { ⌜ length (now answer) ≡ 49 ⌝ }
+    ensures { λ r. ⌜ made r (now (answer .exit)) ≡ refuse client ⌝ }
+    ensures { λ r. ⌜ r .count ≤ 49 ⌝ }
+{
+    let count = put_number(answer, refusals::LINE_MALFORMED);
+    Answered { client, count }
+}
+
+fn has_length(frame: &[u8], low: usize, high: usize) -> bool
+    ensures { λ r. ⌜ r ≡ hasLength low high (now (frame .entry)) ⌝ }
+{
+    (low <= frame.len()) & (frame.len() <= high)
+}
+
+// A frame that begins with this octet and has from low to high octets.
+fn is_frame(frame: &[u8], first: u8, low: usize, high: usize) -> bool
+    requires { ⌜ 1 ≤ low ⌝ }
+    ensures { λ r. ⌜ r ≡ isFrame first low high (now (frame .entry)) ⌝ }
+{
+    has_length(frame, low, high) && frame[0] == first
+}
+
+fn answer_frame(client: Client, frame: &[u8], answer: &mut [u8]) -> Answered
+    requires { ⌜ length (now answer) ≡ 49 ⌝ }
+    ensures { λ r. ⌜ made r (now (answer .exit)) ≡ answered client (now (frame .entry)) ⌝ }
+    ensures { λ r. ⌜ r .count ≤ 49 ⌝ }
+{
+    if is_frame(frame, 0xA1, 17, 17) {
+        return ask(client, frame, answer);
+    }
+    if is_frame(frame, 0xA2, 17, 85) {
+        return arrival(client, frame, answer);
+    }
+    if is_frame(frame, 0xA3, 17, 17) {
+        return give_up(client, frame, answer);
+    }
+    refuse(client, answer)
+}
+
+// The answer to a line, whose octets stand at the start of their buffer.
+pub(crate) fn answer_line(client: Client, line: Line, octets: &[u8], answer: &mut [u8]) -> Answered
+    requires { ⌜ length (now answer) ≡ 49 ⌝ }
+    ensures { λ r. ⌜ made r (now (answer .exit)) ≡ answeredFrame client (frameOf line (now (octets .entry))) ⌝ }
+    ensures { λ r. ⌜ r .count ≤ 49 ⌝ }
+{
+    if line.is_whole() {
+        let n = least(line.count, octets.len());
+        return answer_frame(client, &octets[..n], answer);
+    }
+    refuse(client, answer)
+}
+
+fn least(a: usize, b: usize) -> usize
+    ensures { λ r. ⌜ r ≡ min a b ⌝ }
+{
+    if a < b { a } else { b }
+}
