@@ -23,6 +23,7 @@ use Rattle.client.specs.GiveUp.{giveUpTests, gaveUp}
 use Rattle.server.specs.declared.ReplyAnswer as answers
 use Rattle.server.specs.Server as server
 use Rattle.demands.specs.Behaviour.{Call, ask, arrival, giveUp, lent, refused, numberOf, saidCall, saidArrival, saidReply, step, ours}
+use Rattle.demands.specs.Lines.{parse}
 use Rattle.demands.specs.Taken.{Askable, Overdue, Kissed, Acceptable}
 use Rattle.demands.specs.Demand1.{Known, Demand1}
 use Rattle.demands.specs.Demand2.{By, first}
@@ -32,6 +33,7 @@ use Rattle.demands.proofs.Client.{passes-askable, ask-exactly, passes-o
 use Rattle.demands.proofs.Arrival.{unrefused, kiss-exactly, accepted-exactly}
 use Rattle.demands.proofs.Server.{server-demand}
 use Rattle.demands.proofs.Legal.{has-asked, exponent-range, waiting-legal, without-legal}
+use Rattle.demands.proofs.Lines.{line-is, known-to, kept-to}
 use Rattle.demands.proofs.Demand2.{step-refused}
 use Rattle.demands.proofs.Known.{measure-known, read-known, write-known, write-kept, date-known, timestamp-known, precision-known}
 
@@ -132,11 +134,13 @@ demand1 = record {
   date-known = date-known;
   timestamp-known = timestamp-known;
   precision-known = precision-known;
+  line-known = λ c line. rw (line-is c line) (known-to step step-known c (parse line));
   step-kept = step-kept;
   reply-kept = λ request s t2 t3 buffer n e.
       ap (λ g. keptOf g buffer (octetsOf (server.replyFields s (fieldsOf request) t2 t3) ++ drop 48 buffer))
       (gives (server.replyTests request s t2 t3 buffer) n (server-demand .reply-refused request s t2 t3 buffer n .0 e));
   write-kept = write-kept;
+  line-kept = λ c line n. rw (line-is c line) (kept-to step (λ c x n e. step-kept c x n e .0) c (parse line) n);
   fresh-legal = refl;
   legal-kept = legal-kept;
   stopped-refused = λ c x s. by-first c x _ (λ u. absurd (stopped-not c x s u)) (λ n r. (n, r));

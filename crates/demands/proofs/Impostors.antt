@@ -1,8 +1,9 @@
 -- Each impostor is shut out by a demand.
+use Prim.Native.Nat.{ℕ}
 use mathlib.Core.Path.{_≡_, refl, sym, ap, subst, _∙_}
 use mathlib.Core.Logic.{inl}
 use mathlib.Core.Bool.{not}
-use mathlib.Core.List.{[], _∷_}
+use mathlib.Core.List.{List, [], _∷_}
 use native.Mathlib.Omega.{arith}
 use lib.Dec.{T, eqb, lit≤}
 use lib.ListN.{getD, replicate}
@@ -13,6 +14,7 @@ use Rattle.numbers.specs.Modulo.{_modulo_}
 use Rattle.numbers.specs.TwosComplement.{signed, difference}
 use Rattle.numbers.specs.Octets.{octets}
 use Rattle.numbers.proofs.Whole.{whole, size, minus}
+use Rattle.refusals.specs.Numbers.{line-malformed}
 use Rattle.timestamp.specs.declared.Timestamp.{Timestamp}
 use Rattle.timestamp.specs.Timestamp.{fromSeconds, _⊖_}
 use Rattle.offset.specs.Offset.{floorHalf, halfOf, offsetTests}
@@ -26,18 +28,22 @@ use Rattle.calendar.specs.Calendar.{dateIn, secondsAt, start2036}
 use Rattle.precision.specs.Precision.{least, precisionIn}
 use Rattle.precision.proofs.Least.{least-smallest}
 use Rattle.client.specs.declared.Client.{Client}
-use Rattle.client.specs.Record.{isWaiting, illegal, tooSoon}
+use Rattle.client.specs.Record.{fresh, isWaiting, illegal, tooSoon}
 use Rattle.client.specs.Ask.{request, askTests, asked, askedBuffer}
 use Rattle.client.specs.Arrival.{arrived}
 use Rattle.client.specs.Arrival as arrivals
 use Rattle.client.specs.GiveUp.{gaveUp, giveUpTests}
 use Rattle.server.specs.Server.{requestTests, replyFields, replied, repliedBuffer}
 use Rattle.server.specs.Server as server
+use Rattle.lines.specs.Lines.{digitOf}
+use Rattle.replay_lines.specs.Frames.{Reply, answered}
 use Rattle.demands.specs.Behaviour.{ask, arrival, Result, refused, done, accepted, kiss, Outcome, Written}
+use Rattle.demands.specs.Lines.{callOf}
+use Rattle.demands.specs.Demand1.{Demand1}
 use Rattle.demands.specs.Demand2.{Done, Demand2}
 use Rattle.demands.specs.Demand3.{reading, T1, T4}
 use Rattle.demands.specs.Witnesses.{replay, buffer}
-use Rattle.demands.specs.Impostors.{refusing, alwaysWriting, takingNone, stayingWaiting, spending, kissFirst, unsignedTimes, fixing, measuring, zeroOffset, hugeDelay, halfLost, towardZero, halvedApart, neverReplying, wrongOriginate, fourthYears, roundedDown}
+use Rattle.demands.specs.Impostors.{refusing, alwaysWriting, takingNone, stayingWaiting, spending, kissFirst, unsignedTimes, fixing, measuring, zeroOffset, hugeDelay, halfLost, towardZero, halvedApart, neverReplying, wrongOriginate, fourthYears, roundedDown, refusingLines, droppingDigits, startingAfresh}
 use Rattle.demands.specs.ShutOut.{ShutOut}
 use Rattle.demands.proofs.Witnesses.{orderly}
 use Rattle.demands.proofs.Told.{slowBack, slowOut, bothOdd, otherServer, waiting, as-ours, tells, reply-as-ours, near, inBound, kept, in-bound}
@@ -70,6 +76,23 @@ unfolding least
 rounded-down demand =
     let e = demand .precision .precision-taken 3 2 (lit≤ tt) (lit≤ tt) (least-smallest 3 32 (lit≤ tt)) in
     subst (λ a. T (leZ (precisionIn a) (negsuc 30))) e tt
+
+-- A3 and so many digits 0, of which 32 make a give-up
+abbrev giveUpLine : ℕ → List ℕ
+giveUpLine zeros = 65 ∷ 51 ∷ replicate zeros 48
+
+refuses-every-line : Demand2 refusingLines → ⊥
+unfolding digitOf callOf answered gaveUp giveUpTests illegal
+refuses-every-line demand = let z : _≡_ {A = ℕ} 0 1 = cc (demand .replay .line-refused fresh (giveUpLine 32) .0 refl) in omega arith
+
+accepts-odd-digits : Demand2 droppingDigits → ⊥
+unfolding digitOf callOf answered gaveUp giveUpTests illegal
+accepts-odd-digits demand = subst (λ n. T (not (eqb n line-malformed))) (demand .replay .line-refused fresh (giveUpLine 33) .1 refl) tt
+
+-- an empty line, to a client that waits
+starts-afresh : (c : Client) → T (isWaiting (c .phase)) → Demand1 startingAfresh → ⊥
+unfolding callOf answered
+starts-afresh c waits demand = subst (λ (r : Reply). T (isWaiting (r .client .phase))) (sym (demand .line-kept c [] line-malformed refl (λ z. omega arith))) waits
 
 pub shut-out : ShutOut
 unfolding arrived arrivals.replyTests offsetTests _⊖_ difference signed _modulo_ floorHalf halfOf offset.outOfRange fieldsOf octetsOf octets request illegal askTests asked askedBuffer replied repliedBuffer server.replyTests requestTests server.outOfRange replyFields reading tooSoon gaveUp giveUpTests
@@ -129,4 +152,7 @@ shut-out =
           omega arith;
       every-fourth-year = every-fourth-year;
       rounded-down = rounded-down;
+      refuses-every-line = refuses-every-line;
+      accepts-odd-digits = accepts-odd-digits;
+      starts-afresh = starts-afresh (waiting slowBack) tt;
     }

@@ -7,6 +7,7 @@ pub mod Precision
 pub mod Client
 pub mod Arrival
 pub mod Server
+pub mod Lines
 pub mod Legal
 pub mod Demand2
 pub mod Known

@@ -25,6 +25,8 @@ use Rattle.client.specs.GiveUp.{gaveUp}
 use Rattle.server.specs.declared.Settings.{Settings}
 use Rattle.server.specs.declared.ReplyAnswer.{ReplyAnswer}
 use Rattle.server.specs.Server.{replied, repliedBuffer}
+use Rattle.replay_lines.specs.Frames.{Reply}
+use Rattle.replay_lines.specs.Replay as replay
 
 -- a call of the client, with what it carries
 pub data Call : Type 0 where
@@ -72,6 +74,7 @@ pub record Behaviour : Type 0 where
   pub date : Timestamp → DateAnswer
   pub timestamp : Date → TimestampAnswer
   pub precision : (tick : ℕ) → PrecisionAnswer
+  pub line : Client → (line : List ℕ) → Reply  -- a line of a replay, its line feed left out
 
 -- ---- ours: the definitions that the contracts of the code cite
 
@@ -120,4 +123,5 @@ ours = record {
   date = dateOf;
   timestamp = timestampOf;
   precision = precisionOf;
+  line = replay.reply;
 }

@@ -2,13 +2,13 @@
 -- one place.
 use Prim.Native.Nat.{ℕ, suc, _+_, _-_, _/_, _%_, _^_}
 use mathlib.Core.Bool.{Bool, cond, not, _&&_, _||_}
-use mathlib.Core.List.{List, [], _++_}
+use mathlib.Core.List.{List, [], _∷_, _++_}
 use lib.Dec.{eqb, leb, ltb}
 use lib.IntN.{ℤ, pos, _+ℤ_, _-ℤ_}
 use lib.ListN.{length, take, drop, replicate}
 use lib.Signed.{quotZ}
 use Rattle.numbers.specs.Octets.{part}
-use Rattle.refusals.specs.Numbers.{record-not-legal, packet-length-wrong, not-waiting, timestamp-zero, no-such-date, outside-window, tick-out-of-range}
+use Rattle.refusals.specs.Numbers.{record-not-legal, packet-length-wrong, not-waiting, timestamp-zero, no-such-date, outside-window, tick-out-of-range, line-malformed}
 use Rattle.refusals.specs.Tests.{Tests, _if_else_, _when_else_, otherwise, answer, kept, carry}
 use Rattle.timestamp.specs.declared.Timestamp.{Timestamp}
 use Rattle.timestamp.specs.Timestamp.{fromSeconds, fractionOf, isZero}
@@ -27,17 +27,19 @@ use Rattle.precision.specs.Precision.{least}
 use Rattle.client.specs.declared.Client.{Client}
 use Rattle.client.specs.declared.Phase.the-variants.{Idle}
 use Rattle.client.specs.declared.Arrived.{Arrived}
-use Rattle.client.specs.Record.{isWaiting, illegal, without}
+use Rattle.client.specs.Record.{fresh, isWaiting, illegal, without}
 use Rattle.client.specs.Ask.{request}
 use Rattle.client.specs.Arrival.{refusedArrived, kissed, settled, matchTests, useTests, arrivalTests}
 use Rattle.server.specs.declared.Settings.{Settings}
+use Rattle.replay_lines.specs.Frames.{Reply}
 use Rattle.demands.specs.Behaviour.{Call, ask, arrival, giveUp, lent, Result, refused, done, accepted, kiss, Outcome, Written, Behaviour, saidArrival, step, ours}
+use Rattle.demands.specs.Lines.{Parsed, call, malformed, parse, lineFrom}
 use Rattle.demands.specs.Taken.{P, Q, d}
 
 -- ours with these parts
 abbrev with : (Client → Call → Outcome) → (List ℕ → Settings → Timestamp → Timestamp → List ℕ → Written) → (List ℕ → FieldsAnswer) → (List ℕ → Fields → Written)
-    → (Timestamp → DateAnswer) → (Date → TimestampAnswer) → (ℕ → PrecisionAnswer) → Behaviour
-with step reply read write date timestamp precision = record {
+    → (Timestamp → DateAnswer) → (Date → TimestampAnswer) → (ℕ → PrecisionAnswer) → (Client → List ℕ → Reply) → Behaviour
+with step reply read write date timestamp precision line = record {
   fresh = ours .fresh;
   step = step;
   reply = reply;
@@ -47,12 +49,13 @@ with step reply read write date timestamp precision = record {
   date = date;
   timestamp = timestamp;
   precision = precision;
+  line = line;
 }
 
--- ---- the client
+-- ---- the client; its replay answers a line as it answers the call
 
 abbrev stepping : (Client → Call → Outcome) → Behaviour
-stepping does = with does (ours .reply) (ours .read) (ours .write) (ours .date) (ours .timestamp) (ours .precision)
+stepping does = with does (ours .reply) (ours .read) (ours .write) (ours .date) (ours .timestamp) (ours .precision) (lineFrom does)
 
 -- it refuses everything, by whatever numbers
 abbrev pub refusing : (Client → Call → ℕ) → Behaviour
@@ -181,7 +184,7 @@ module _ (t1 t2 t3 t4 : Timestamp) where
 -- ---- the server
 
 abbrev serving : (List ℕ → Settings → Timestamp → Timestamp → List ℕ → Written) → Behaviour
-serving replies = with step replies (ours .read) (ours .write) (ours .date) (ours .timestamp) (ours .precision)
+serving replies = with step replies (ours .read) (ours .write) (ours .date) (ours .timestamp) (ours .precision) (ours .line)
 
 -- it refuses everything, by whatever numbers
 abbrev pub neverReplying : (List ℕ → Settings → Timestamp → Timestamp → List ℕ → ℕ) → Behaviour
@@ -198,7 +201,7 @@ neitherReadNorWritten =
     with step (ours .reply)
     (λ p. answer FieldsAnswer.Refused (packet-length-wrong if wrongLength p else otherwise (FieldsAnswer.Fields (fieldsOf (replicate 48 0)))))
     (λ buffer f. record { result = ours .write buffer f .result; octets = buffer })
-    (ours .date) (ours .timestamp) (ours .precision)
+    (ours .date) (ours .timestamp) (ours .precision) (ours .line)
 
 -- ---- the calendar: every fourth year is a leap year
 
@@ -231,7 +234,7 @@ fourthYears =
     outside-window if not (inWindow (fourthYearSeconds x)) else
     timestamp-zero if isZero (fourthYearTimestamp x) else
     otherwise (TimestampAnswer.Timestamp (fourthYearTimestamp x))))
-    (ours .precision)
+    (ours .precision) (ours .line)
 
 -- ---- the precision: the greatest power of two not above the tick
 
@@ -241,3 +244,30 @@ roundedDown =
     (λ tick. answer PrecisionAnswer.Refused (
     tick-out-of-range if eqb tick 0 || ltb (2 ^ 32) tick else
     otherwise (PrecisionAnswer.Precision (pos (least (suc tick) 33 - 1) -ℤ pos 32))))
+    (ours .line)
+
+-- ---- the replay
+
+abbrev replaying : (Client → List ℕ → Reply) → Behaviour
+replaying = with step (ours .reply) (ours .read) (ours .write) (ours .date) (ours .timestamp) (ours .precision)
+
+-- it takes every line for malformed
+abbrev pub refusingLines : Behaviour
+refusingLines = replaying (λ c line. record { client = c; octets = line-malformed ∷ [] })
+
+-- it drops the last of an odd number of digits, and obeys the rest
+abbrev pairs : List ℕ → List ℕ
+pairs [] = []
+pairs (a ∷ []) = []
+pairs (a ∷ b ∷ rest) = a ∷ b ∷ pairs rest
+
+abbrev pub droppingDigits : Behaviour
+droppingDigits = replaying (λ c line. ours .line c (pairs line))
+
+-- it starts afresh at a malformed line
+abbrev afresh : Client → Parsed → Client
+afresh next (call x) = next
+afresh next malformed = fresh
+
+abbrev pub startingAfresh : Behaviour
+startingAfresh = replaying (λ c line. record { client = afresh (ours .line c line .client) (parse line); octets = ours .line c line .octets })

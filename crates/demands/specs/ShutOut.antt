@@ -9,7 +9,7 @@ use Rattle.demands.specs.Behaviour.{Behaviour, Call, Result}
 use Rattle.demands.specs.Demand1.{Demand1}
 use Rattle.demands.specs.Demand2.{Demand2}
 use Rattle.demands.specs.Demand3.{Demand3}
-use Rattle.demands.specs.Impostors.{refusing, alwaysWriting, takingNone, stayingWaiting, spending, kissFirst, unsignedTimes, fixing, measuring, zeroOffset, hugeDelay, halfLost, towardZero, halvedApart, neverReplying, wrongOriginate, neitherReadNorWritten, fourthYears, roundedDown}
+use Rattle.demands.specs.Impostors.{refusing, alwaysWriting, takingNone, stayingWaiting, spending, kissFirst, unsignedTimes, fixing, measuring, zeroOffset, hugeDelay, halfLost, towardZero, halvedApart, neverReplying, wrongOriginate, neitherReadNorWritten, fourthYears, roundedDown, refusingLines, droppingDigits, startingAfresh}
 
 -- demand 2 shuts it out, and so does demand 3
 abbrev Both : Behaviour → Type 0
@@ -36,3 +36,6 @@ pub record ShutOut : Type 0 where
   pub neither-read-nor-written : Demand2 neitherReadNorWritten → ⊥
   pub every-fourth-year : Demand2 fourthYears → ⊥
   pub rounded-down : Demand2 roundedDown → ⊥
+  pub refuses-every-line : Demand2 refusingLines → ⊥
+  pub accepts-odd-digits : Demand2 droppingDigits → ⊥
+  pub starts-afresh : Demand1 startingAfresh → ⊥

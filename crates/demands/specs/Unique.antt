@@ -29,6 +29,7 @@ pub record OnlyOurs (b : Behaviour) : Type 0 where
   pub same-fresh : b .fresh ≡ ours .fresh
   pub same-step : (c : Client) (x : Call) → b .step c x ≡ ours .step c x
   pub same-reply : (request : List ℕ) (s : Settings) (t2 t3 : Timestamp) (buffer : List ℕ) → b .reply request s t2 t3 buffer ≡ ours .reply request s t2 t3 buffer
+  pub same-line : (c : Client) (line : List ℕ) → b .line c line ≡ ours .line c line
   pub same-parts : SameParts b
 
 abbrev pub Unique : Type 0
