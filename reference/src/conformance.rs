@@ -2,6 +2,7 @@
 
 use crate::calendar::{self, Date};
 use crate::client::{self, Arrival, Client, Phase, FRESH};
+use crate::ledger;
 use crate::lines::{answer_lines, MALFORMED};
 use crate::packet::{self, get4, get8, Fields};
 use crate::precision;
@@ -128,6 +129,8 @@ pub fn lengths(operation: u8) -> Option<(usize, usize)> {
         0x09 => (28, 28 + MOST),
         0x0A => (28, 28),
         0x0B => (32, 32 + MOST),
+        0x0C => (17, 17),
+        0x0D => (16, 16),
         0xF0 => (0, 0),
         0xF1 => (0, 0),
         0xF2 => (8, 8),
@@ -253,6 +256,18 @@ fn try_answer(line: &[u8], out: &mut Vec<u8>) -> Option<()> {
             out.push(server::reply(&settings, t2, t3, &rest[32..], buffer));
             out.extend_from_slice(buffer);
         }
+        0x0C => {
+            let (debt, offset) = (get8(rest) as i64, get8(&rest[8..]) as i64);
+            let (number, next) = ledger::entry(debt, offset, rest[16]);
+            out.push(number);
+            out.extend_from_slice(&next.to_be_bytes());
+        }
+        0x0D => {
+            let (number, paid, next) = ledger::tick(get8(rest) as i64, get8(&rest[8..]));
+            out.push(number);
+            out.extend_from_slice(&paid.to_be_bytes());
+            out.extend_from_slice(&next.to_be_bytes());
+        }
         0xF0 => {
             out.push(0);
             put_record(&FRESH, out);
@@ -361,6 +376,29 @@ mod tests {
     }
 
     #[test]
+    fn calls_on_a_ledger() {
+        let zero = "0000000000000000";
+        let less = "FFFFFFFFFFFFFFFF";
+        let most = "0003FFFFFFFFFFFF";
+        let over = "0004000000000000";
+        assert_eq!(one(&format!("0C{zero}{less}01")), format!("00{less}"));
+        assert_eq!(one(&format!("0C{most}{zero}01")), format!("1F{most}"));
+        assert_eq!(one(&format!("0C{most}{less}00")), "000003FFFFFFFFFFFD");
+        assert_eq!(one(&format!("0C{zero}{zero}02")), format!("1E{zero}"));
+        assert_eq!(one(&format!("0C{over}{zero}02")), format!("1D{over}"));
+        assert_eq!(one(&format!("0D{less}0000000100000000")), format!("00{less}{zero}"));
+        assert_eq!(one(&format!("0D{zero}0000000000000001")), format!("00{zero}{zero}"));
+        assert_eq!(one(&format!("0D{less}0000000100000001")), format!("20{zero}{less}"));
+        assert_eq!(one(&format!("0D{over}{zero}")), format!("1D{zero}{over}"));
+        let tick = format!("000000000000000001{}", "0003FFFFFFFFFFFE");
+        assert_eq!(one(&format!("0D{most}0000000000000001")), tick);
+        for line in ["0C{}", "0D{}00", "0D"] {
+            let line = line.replace("{}", &"00".repeat(16));
+            assert_eq!(one(&line), "40");
+        }
+    }
+
+    #[test]
     fn malformed_lines() {
         let fresh = "0000000000000000000000000000000000000006";
         let ask = format!("08{fresh}3004FFFFFFFA000000000000000000000007");
@@ -371,7 +409,7 @@ mod tests {
         let n = format!("{}51{}", &ask[..42], &ask[44..]);
         let reply = format!("0B02{}", "00".repeat(31));
         let lines = [
-            "\n", "0", "F0\r", "F0 ", " F0", "F0\0", "F000", "F3", "00", "0C", "0G",
+            "\n", "0", "F0\r", "F0 ", " F0", "F0\0", "F000", "F3", "00", "0C", "0D", "0E", "0G",
             &phase, &flag, &n, &reply, &ask[..76], &format!("{ask}00"), "F", "F00",
             &format!("03{}", "00".repeat(81)), "0100",
         ];

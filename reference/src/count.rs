@@ -73,6 +73,10 @@ const KINDS: [&str; 11] = [
     "empty", "odd", "cr", "space", "nul", "character", "operation", "length", "flag", "phase", "n",
 ];
 
+/// Wrong lengths of the ledger's lines, counted also by themselves.
+const LEDGER_LENGTHS: [&str; 4] =
+    ["length-0C-short", "length-0C-long", "length-0D-short", "length-0D-long"];
+
 /// What the list of calls and numbers asks for.
 fn conformance_wanted() -> Vec<(String, String)> {
     let mut wanted = Vec::new();
@@ -92,6 +96,8 @@ fn conformance_wanted() -> Vec<(String, String)> {
     want("09", &[29, 7, 8, 9, 10, 11, 3, 12, 13, 14, 15, 16, 17, 18, 19]);
     want("0A", &[0, 29, 8, 20]);
     want("0B", &[0, 1, 7, 21, 22, 23, 14, 17]);
+    want("0C", &[0, 29, 30, 31]);
+    want("0D", &[0, 29, 32]);
     want("F0", &[0]);
     want("F1", &[0]);
     want("F2", &[0]);
@@ -100,7 +106,7 @@ fn conformance_wanted() -> Vec<(String, String)> {
     for row in 0..=KISSES.len() {
         wanted.push(("09".to_string(), format!("kiss-{row:02}")));
     }
-    for kind in KINDS {
+    for kind in KINDS.iter().chain(&LEDGER_LENGTHS) {
         wanted.push(("--".to_string(), format!("64-{kind}")));
     }
     wanted
@@ -167,6 +173,17 @@ fn kind_of(text: &[u8], line: &[u8], digits: bool) -> &'static str {
     }
 }
 
+/// Which of the ledger's wrong lengths a line of wrong length has.
+fn ledger_length(line: &[u8]) -> Option<&'static str> {
+    let (first, right) = match line[0] {
+        0x0C => (0, 17),
+        0x0D => (2, 16),
+        _ => return None,
+    };
+    let long = line.len() - 1 > right;
+    Some(LEDGER_LENGTHS[first + long as usize])
+}
+
 /// One line of a file without its line feed; false at the end.
 fn next_line(file: &mut impl BufRead, line: &mut Vec<u8>) -> io::Result<bool> {
     line.clear();
@@ -219,7 +236,13 @@ pub fn conformance_of(lines: impl BufRead, answers: impl BufRead) -> io::Result<
     pairs(lines, answers, |text, line, digits, answer| {
         if answer == [64] {
             malformed += 1;
-            *kinds.entry(kind_of(text, line, digits)).or_insert(0u64) += 1;
+            let kind = kind_of(text, line, digits);
+            *kinds.entry(kind).or_insert(0u64) += 1;
+            if kind == "length" {
+                if let Some(more) = ledger_length(line) {
+                    *kinds.entry(more).or_insert(0u64) += 1;
+                }
+            }
             return;
         }
         let operation = if digits && !line.is_empty() { line[0] } else { 0xFF };

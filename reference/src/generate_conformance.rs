@@ -3,6 +3,8 @@
 use crate::calendar::{month_days, timestamp_of as timestamp_of_date, Date};
 use crate::client::{Client, Phase, FRESH};
 use crate::conformance::{put_date, put_fields, put_record, MOST};
+use crate::generate_ledger::{self, Runs};
+use crate::lines::write_lines;
 use crate::material::*;
 use crate::opening;
 use crate::packet::Fields;
@@ -464,7 +466,7 @@ fn halve(r: &mut Random, line: &mut Vec<u8>) {
 
 /// The octets of one well-formed line.
 fn well_formed(r: &mut Random, line: &mut Vec<u8>) {
-    match r.below(100) {
+    match r.below(104) {
         0..=2 => difference(r, line),
         3..=12 => measure(r, line),
         13..=16 => read(r, line),
@@ -477,7 +479,9 @@ fn well_formed(r: &mut Random, line: &mut Vec<u8>) {
         81..=87 => give_up(r, line),
         88..=97 => reply(r, line),
         98 => line.push(r.pick(&[0xF0, 0xF1])),
-        _ => halve(r, line),
+        99 => halve(r, line),
+        100 | 101 => generate_ledger::entry(r, line),
+        _ => generate_ledger::tick(r, line),
     }
 }
 
@@ -570,41 +574,38 @@ fn spoil_octets(r: &mut Random, line: &mut Vec<u8>) {
     }
 }
 
-/// Writes so many lines; `open` leaves the last line feed off.
-pub fn run<W: Write>(count: u64, seed: u64, open: bool, mut output: W) -> io::Result<()> {
-    let mut r = Random::new(seed);
-    let mut text: Vec<u8> = Vec::with_capacity(1 << 17);
-    let mut line: Vec<u8> = Vec::with_capacity(4096);
-    let mut digits: Vec<u8> = Vec::with_capacity(8192);
-    let fixed = opening::lines();
-    for i in 0..count {
-        if let Some(first) = fixed.get(i as usize) {
-            text.extend_from_slice(first);
-        } else {
-            line.clear();
-            well_formed(&mut r, &mut line);
-            match r.below(50) {
-                0 => {
-                    digits.clear();
-                    put_text(&mut r, &line, &mut digits);
-                    damage(&mut r, &mut digits);
-                    text.extend_from_slice(&digits);
-                }
-                1 => {
-                    spoil_octets(&mut r, &mut line);
-                    put_text(&mut r, &line, &mut text);
-                }
-                _ => put_text(&mut r, &line, &mut text),
-            }
+/// Appends one line's text: well formed, or malformed by digits or octets.
+fn put_line(r: &mut Random, runs: &mut Runs, line: &mut Vec<u8>, text: &mut Vec<u8>) {
+    line.clear();
+    if !runs.call(r, line) {
+        well_formed(r, line);
+    }
+    match r.below(50) {
+        0 => {
+            let mut digits = Vec::new();
+            put_text(r, line, &mut digits);
+            damage(r, &mut digits);
+            text.extend_from_slice(&digits);
         }
-        if !(open && i + 1 == count) {
-            text.push(b'\n');
+        1 => {
+            spoil_octets(r, line);
+            put_text(r, line, text);
         }
-        if text.len() > 1 << 16 {
-            output.write_all(&text)?;
-            text.clear();
+        _ => {
+            put_text(r, line, text);
+            runs.keep();
         }
     }
-    output.write_all(&text)?;
-    output.flush()
+}
+
+/// Writes so many lines; `open` leaves the last line feed off.
+pub fn run<W: Write>(count: u64, seed: u64, open: bool, output: W) -> io::Result<()> {
+    let mut r = Random::new(seed);
+    let mut runs = Runs::new();
+    let mut line: Vec<u8> = Vec::with_capacity(4096);
+    let fixed = opening::lines();
+    write_lines(count, open, output, |i, text| match fixed.get(i as usize) {
+        Some(first) => text.extend_from_slice(first),
+        None => put_line(&mut r, &mut runs, &mut line, text),
+    })
 }

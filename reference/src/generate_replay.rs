@@ -1,6 +1,7 @@
 //! A seeded replay stream: one client with a long life.
 
 use crate::client::{kiss_row, Client, Phase, FRESH};
+use crate::lines::write_lines;
 use crate::material::*;
 use crate::random::Random;
 use crate::replay;
@@ -240,10 +241,49 @@ impl Gateway {
             }
         }
     }
+
+    /// The frame that suits the client; `late` where the stream's end is near.
+    fn next_frame(&mut self, end: End, late: bool, line: &mut Vec<u8>) {
+        line.clear();
+        match (self.client.phase, end) {
+            (Phase::Waiting, End::Kiss(row)) if late => self.kiss(row, line),
+            (Phase::Waiting, _) => self.waiting(line),
+            (Phase::Idle, _) => self.idle(line),
+            (Phase::Stopped, _) => self.stopped(line),
+        }
+    }
+
+    /// Appends the frame's text, malformed at times.
+    fn put_frame(&mut self, line: &mut Vec<u8>, text: &mut Vec<u8>) {
+        match self.r.below(60) {
+            0 => {
+                let mut digits = Vec::new();
+                put_text(&mut self.r, line, &mut digits);
+                damage(&mut self.r, &mut digits);
+                text.extend_from_slice(&digits);
+                line.clear();
+            }
+            1 => {
+                self.no_frame(line);
+                put_text(&mut self.r, line, text);
+            }
+            _ => put_text(&mut self.r, line, text),
+        }
+    }
+
+    /// Follows the client, so that the next frame suits it.
+    fn follow(&mut self, line: &[u8]) {
+        let before = self.client.phase;
+        self.answer.clear();
+        replay::answer(&mut self.client, line, &mut self.answer);
+        if before != Phase::Waiting && self.client.phase == Phase::Waiting {
+            self.plan();
+        }
+    }
 }
 
 /// Writes so many frames; `open` leaves the last line feed off.
-pub fn run<W: Write>(count: u64, seed: u64, open: bool, mut output: W) -> io::Result<()> {
+pub fn run<W: Write>(count: u64, seed: u64, open: bool, output: W) -> io::Result<()> {
     let mut r = Random::new(seed ^ 0x5EED_0F_4EB1A7);
     let end = end_of(seed);
     let tail = (count / 50).clamp(1, 400);
@@ -263,50 +303,14 @@ pub fn run<W: Write>(count: u64, seed: u64, open: bool, mut output: W) -> io::Re
         give_up: false,
         answer: Vec::new(),
     };
-    let mut text: Vec<u8> = Vec::with_capacity(1 << 17);
     let mut line: Vec<u8> = Vec::with_capacity(1024);
-    let mut digits: Vec<u8> = Vec::with_capacity(2048);
-    for i in 0..count {
-        line.clear();
-        digits.clear();
+    write_lines(count, open, output, |i, text| {
         let left = count - i;
         if left == tail && end == End::LateUptime {
             s.uptime = u64::MAX - s.r.below(200);
         }
-        match (s.client.phase, end) {
-            (Phase::Waiting, End::Kiss(row)) if left <= tail => s.kiss(row, &mut line),
-            (Phase::Waiting, _) => s.waiting(&mut line),
-            (Phase::Idle, _) => s.idle(&mut line),
-            (Phase::Stopped, _) => s.stopped(&mut line),
-        }
-        match s.r.below(60) {
-            0 => {
-                put_text(&mut s.r, &line, &mut digits);
-                damage(&mut s.r, &mut digits);
-                line.clear();
-            }
-            1 => {
-                s.no_frame(&mut line);
-                put_text(&mut s.r, &line, &mut digits);
-            }
-            _ => put_text(&mut s.r, &line, &mut digits),
-        }
-        // Follow the client, so that the next frame suits it.
-        let before = s.client.phase;
-        s.answer.clear();
-        replay::answer(&mut s.client, &line, &mut s.answer);
-        if before != Phase::Waiting && s.client.phase == Phase::Waiting {
-            s.plan();
-        }
-        text.extend_from_slice(&digits);
-        if !(open && left == 1) {
-            text.push(b'\n');
-        }
-        if text.len() > 1 << 16 {
-            output.write_all(&text)?;
-            text.clear();
-        }
-    }
-    output.write_all(&text)?;
-    output.flush()
+        s.next_frame(end, left <= tail, &mut line);
+        s.put_frame(&mut line, text);
+        s.follow(&line);
+    })
 }

@@ -1,5 +1,5 @@
-//! An independent second program for the SNTP client, server, calendar and
-//! line formats. Written from the papers only, with plain means, so that its
+//! An independent second program for the SNTP client, server, calendar, ledger
+//! and line formats. Written from the papers only, with plain means, so that its
 //! answers can be compared octet for octet with another program's.
 
 pub mod calendar;
@@ -7,7 +7,9 @@ pub mod client;
 pub mod conformance;
 pub mod count;
 pub mod generate_conformance;
+pub mod generate_ledger;
 pub mod generate_replay;
+pub mod ledger;
 pub mod lines;
 pub mod material;
 pub mod opening;

@@ -32,6 +32,29 @@ pub fn write_hex(octets: &[u8], text: &mut Vec<u8>) {
     }
 }
 
+/// Writes so many lines; `open` leaves the last line feed off. `put` appends
+/// a line by its place, without a line feed.
+pub fn write_lines<W: Write>(
+    count: u64,
+    open: bool,
+    mut output: W,
+    mut put: impl FnMut(u64, &mut Vec<u8>),
+) -> io::Result<()> {
+    let mut text: Vec<u8> = Vec::with_capacity(1 << 17);
+    for i in 0..count {
+        put(i, &mut text);
+        if !(open && i + 1 == count) {
+            text.push(b'\n');
+        }
+        if text.len() > 1 << 16 {
+            output.write_all(&text)?;
+            text.clear();
+        }
+    }
+    output.write_all(&text)?;
+    output.flush()
+}
+
 /// A line being gathered: its octets, up to a limit.
 struct Line {
     octets: Vec<u8>,

@@ -4,11 +4,15 @@
 use crate::calendar::Date;
 use crate::client::{Client, Phase, FRESH, KISSES};
 use crate::conformance::{put_date, put_fields, put_record, MOST};
+use crate::generate_ledger::{put_entry, put_tick};
 use crate::lines::write_hex;
 use crate::material::put_packet;
 use crate::packet::Fields;
 
 const T: u64 = 1 << 32;
+/// A ledger's line for debts, and for the offset of an entry.
+const OWED: i64 = 1 << 50;
+const FAR: i64 = 1 << 40;
 
 fn text(octets: &[u8]) -> Vec<u8> {
     let mut text = Vec::new();
@@ -237,7 +241,84 @@ fn clients(lines: &mut Vec<Vec<u8>>) {
     lines.push(vec![0xF1]);
 }
 
+/// Debts and offsets at every edge.
+fn entries(lines: &mut Vec<Vec<u8>>) {
+    let mut push = |debt: i64, offset: i64, half: u8| {
+        let mut line = Vec::new();
+        put_entry(debt, offset, half, &mut line);
+        lines.push(line);
+    };
+    let debts = [0, 1, -1, OWED - 1, 1 - OWED, OWED, -OWED, OWED + 1, i64::MAX, i64::MIN];
+    let offsets = [0, 1, -1, FAR - 1, FAR, -FAR, -FAR - 1, i64::MAX, i64::MIN];
+    for debt in debts {
+        for offset in offsets {
+            for half in [0, 1] {
+                push(debt, offset, half);
+            }
+        }
+        for half in [2, 255] {
+            push(debt, 0, half);
+            push(debt, FAR, half);
+        }
+    }
+    for offset in [1 << 62, (1 << 62) - 1, -(1 << 62), i64::MAX - 1, i64::MIN + 1] {
+        for half in [0, 1, 255] {
+            push(0, offset, half);
+        }
+    }
+    for (offset, half) in [(-1, 0), (-1, 1), (0, 2), (0, 3), (0, 128)] {
+        push(2, offset, half);
+    }
+    // Sums that reach the line, or stay one short of it.
+    for (offset, half) in [(0, 1), (1, 0), (FAR - 1, 1)] {
+        let amount = 2 * offset + half as i64;
+        push(OWED - amount, offset, half);
+        push(OWED - amount - 1, offset, half);
+    }
+    for (offset, half) in [(-1, 1), (-1, 0), (-FAR, 1)] {
+        let amount = 2 * offset + half as i64;
+        push(-OWED - amount, offset, half);
+        push(-OWED - amount + 1, offset, half);
+    }
+}
+
+/// Debts under, at and over the limit, of either sign, and every edge.
+fn payments(lines: &mut Vec<Vec<u8>>) {
+    let mut push = |debt: i64, limit: u64| {
+        let mut line = Vec::new();
+        put_tick(debt, limit, &mut line);
+        lines.push(line);
+    };
+    let sizes = [0, 1, (1 << 32) - 1, 1 << 32, (1 << 32) + 1, OWED - 1, OWED, OWED + 1, i64::MAX];
+    let limits = [0, 1, T - 1, T, T + 1, 1 << 63, u64::MAX];
+    for size in sizes {
+        for limit in limits {
+            push(size, limit);
+            push(-size, limit);
+        }
+    }
+    for limit in limits {
+        push(i64::MIN, limit);
+    }
+    for size in [99, 100, 101] {
+        push(size, 100);
+        push(-size, 100);
+    }
+}
+
+/// Wrong lengths of the ledger's lines.
+fn ledger_lengths(lines: &mut Vec<Vec<u8>>) {
+    for (operation, right) in [(0x0C, 17), (0x0D, 16)] {
+        for length in [0, 1, 8, right - 1, right + 1, 2 * right, MOST] {
+            let mut line = vec![operation];
+            line.resize(1 + length, 0);
+            lines.push(text(&line));
+        }
+    }
+}
+
 fn malformed(lines: &mut Vec<Vec<u8>>) {
+    ledger_lengths(lines);
     let mut ask = vec![0x08];
     put_record(&FRESH, &mut ask);
     ask.extend_from_slice(&[0x51, 4]);
@@ -261,7 +342,7 @@ fn malformed(lines: &mut Vec<Vec<u8>>) {
     lines.push(vec![b'0'; 5001]);
     lines.push(vec![b'f'; 70_000]);
     lines.push(vec![b'0'; 140_001]);
-    for odd in ["", "F", "F00", "F000", "F3", "00", "0C", "F0\r", "F0 ", " F0", "F0\0", "G0", "0x"] {
+    for odd in ["", "F", "F00", "F000", "F3", "00", "0E", "F0\r", "F0 ", " F0", "F0\0", "G0", "0x"] {
         lines.push(odd.as_bytes().to_vec());
     }
 }
@@ -274,6 +355,8 @@ pub fn lines() -> Vec<Vec<u8>> {
     ticks(&mut octets);
     lengths(&mut octets);
     clients(&mut octets);
+    entries(&mut octets);
+    payments(&mut octets);
     let mut lines: Vec<Vec<u8>> = octets.iter().map(|o| text(o)).collect();
     malformed(&mut lines);
     lines
@@ -284,6 +367,6 @@ mod tests {
     #[test]
     fn there_are_enough() {
         let count = super::lines().len();
-        assert!((800..1100).contains(&count), "{count}");
+        assert!((1200..1500).contains(&count), "{count}");
     }
 }

@@ -3,6 +3,7 @@
 use crate::calendar::Date;
 use crate::client::Phase;
 use crate::conformance::{get_date, get_record, lengths};
+use crate::ledger;
 use crate::packet::get8;
 use crate::time::difference;
 
@@ -12,6 +13,9 @@ const ACCEPTED: u8 = 100;
 /// For each operation, a name and a count.
 pub struct Sides {
     rows: Vec<Vec<(String, u64)>>,
+    /// The debt handed back by the ledger call before, in calls that began
+    /// without debt.
+    owed: Option<i64>,
 }
 
 /// Calls `see` once for each side, always in the same order.
@@ -41,7 +45,7 @@ impl Marker<'_> {
 
 impl Sides {
     pub fn new() -> Sides {
-        Sides { rows: vec![Vec::new(); 256] }
+        Sides { rows: vec![Vec::new(); 256], owed: None }
     }
 
     pub fn rows(&self) -> impl Iterator<Item = (usize, &str, u64)> {
@@ -114,6 +118,15 @@ impl Sides {
             0x09 => arrival(&mut m, rest, answer, number),
             0x0A => give_up(&mut m, rest, answer, number),
             0x0B => reply(&mut m, rest, number),
+            0x0C | 0x0D => {
+                let run = self.owed == Some(get8(rest) as i64);
+                if line[0] == 0x0C {
+                    entry(&mut m, rest, number, run);
+                } else {
+                    tick(&mut m, rest, answer, number, run);
+                }
+                self.owed = if run || get8(rest) == 0 { handed_back(answer) } else { None };
+            }
             0xF2 => {
                 let s = get8(rest) as i64;
                 for edge in [-2, -1, 0, 1, 2, i64::MIN, i64::MIN + 1, i64::MAX, i64::MAX - 1] {
@@ -437,4 +450,118 @@ fn reply(m: &mut Marker, rest: &[u8], number: u8) {
     m.see("21-before-22", number == 21 && version == 0);
     m.see("22-before-23", number == 22 && leap == 3);
     m.see("23-before-14", number == 23 && synchronised && t2 == 0);
+}
+
+/// The debt at the end of a ledger's answer.
+fn handed_back(answer: &[u8]) -> Option<i64> {
+    let at = answer.len().checked_sub(8)?;
+    Some(get8(&answer[at..]) as i64)
+}
+
+/// Both sides of test 29 on a debt, in either call.
+fn debts(m: &mut Marker, debt: i64, number: u8) {
+    let line = 1i64 << 50;
+    m.see("debt=0", number == 0 && debt == 0);
+    m.see("debt=1", number == 0 && debt == 1);
+    m.see("debt=-1", number == 0 && debt == -1);
+    m.see("debt=2^50-1", number == 0 && debt == line - 1);
+    m.see("debt=-2^50+1", number == 0 && debt == 1 - line);
+    m.see("debt=2^50", number == 29 && debt == line);
+    m.see("debt=-2^50", number == 29 && debt == -line);
+    m.see("debt=2^63-1", number == 29 && debt == i64::MAX);
+    m.see("debt=-2^63", number == 29 && debt == i64::MIN);
+}
+
+/// Both sides of the entry's and the sum's size.
+fn amounts(m: &mut Marker, debt: i128, amount: i128, number: u8) {
+    let taken = number == 0;
+    let large = number == 30;
+    m.see("entry=0", taken && amount == 0);
+    m.see("entry=1", taken && amount == 1);
+    m.see("entry=-1", taken && amount == -1);
+    m.see("entry=2^41-1", taken && amount == (1 << 41) - 1);
+    m.see("entry=2^41", large && amount == 1 << 41);
+    m.see("entry=-2^41+1", taken && amount == 1 - (1 << 41));
+    m.see("entry=-2^41", large && amount == -(1 << 41));
+    m.see("entry=2^63-1", large && amount == (1 << 63) - 1);
+    m.see("entry=2^63", large && amount == 1 << 63);
+    m.see("entry=-2^63", large && amount == -(1 << 63));
+    m.see("entry=2^64-1", large && amount == (1 << 64) - 1);
+    m.see("entry=-2^64", large && amount == -(1 << 64));
+    let sum = debt + amount;
+    let line = 1i128 << 50;
+    m.see("sum=0", taken && sum == 0 && debt != 0);
+    m.see("sum=2^50-1", taken && sum == line - 1 && amount != 0);
+    m.see("sum=2^50", number == 31 && sum == line);
+    m.see("sum=-2^50+1", taken && sum == 1 - line && amount != 0);
+    m.see("sum=-2^50", number == 31 && sum == -line);
+    m.see("sum-by-largest", number == 31 && amount.abs() == (1 << 41) - 1);
+    m.see("through-zero-down", taken && debt > 0 && sum < 0);
+    m.see("through-zero-up", taken && debt < 0 && sum > 0);
+    let short = sum.abs() < line;
+    m.see("29-though-sum-fits", number == 29 && debt == line && amount < 0 && short);
+    m.see("29-though-sum-fits-below", number == 29 && debt == -line && amount > 0 && short);
+    m.see("29-before-31", number == 29 && amount.abs() < 1 << 41 && !short);
+    m.see("30-before-31", large && !short);
+}
+
+fn entry(m: &mut Marker, rest: &[u8], number: u8, run: bool) {
+    let (debt, offset, half) = (get8(rest) as i64, get8(&rest[8..]) as i64, rest[16]);
+    debts(m, debt, number);
+    for h in [0, 1] {
+        m.see_at("half-", h, number == 0 && half == h as u8);
+        m.see_at("below-zero-half-", h, number == 0 && half == h as u8 && offset < 0);
+        m.see_at("offset=2^63-1-half-", h, number == 30 && offset == i64::MAX && half == h as u8);
+        m.see_at("offset=-2^63-half-", h, number == 30 && offset == i64::MIN && half == h as u8);
+    }
+    let amount = ledger::amount(offset, half);
+    let small = amount.abs() < 1 << 41;
+    for h in [2, 255] {
+        m.see_at("refused-half-", h, number == 30 && half == h as u8 && small);
+    }
+    m.see("half-and-size", number == 30 && half > 1 && !small);
+    m.see("29-before-half", number == 29 && half > 1);
+    m.see("29-before-size", number == 29 && half < 2 && !small);
+    // Sizes count only where the half is right.
+    let by_size = if half > 1 { u8::MAX } else { number };
+    amounts(m, debt as i128, amount, by_size);
+    m.see("run-taken", run && number == 0 && amount > 0);
+    m.see("run-taken-below", run && number == 0 && amount < 0);
+    m.see("run-30", run && number == 30 && debt != 0);
+    m.see("run-31", run && number == 31 && debt > 0);
+    m.see("run-31-below", run && number == 31 && debt < 0);
+    m.see("run-debt=2^50-1", run && debt == (1 << 50) - 1);
+    m.see("run-debt=-2^50+1", run && debt == 1 - (1 << 50));
+}
+
+fn tick(m: &mut Marker, rest: &[u8], answer: &[u8], number: u8, run: bool) {
+    let (debt, limit) = (get8(rest) as i64, get8(&rest[8..]) as i128);
+    debts(m, debt, number);
+    let debt = debt as i128;
+    let pays = number == 0;
+    m.see("limit=0", number == 32 && limit == 0);
+    m.see("limit=1", pays && limit == 1);
+    m.see("limit=2^32", pays && limit == 1 << 32);
+    m.see("limit=2^32+1", number == 32 && limit == (1 << 32) + 1);
+    m.see("limit=2^63", number == 32 && limit == 1 << 63);
+    m.see("limit=2^64-1", number == 32 && limit == u64::MAX as i128);
+    m.see("debt=limit-1", pays && limit > 1 && debt == limit - 1);
+    m.see("debt=limit", pays && debt == limit);
+    m.see("debt=limit+1", pays && debt == limit + 1);
+    m.see("debt=-limit+1", pays && limit > 1 && debt == 1 - limit);
+    m.see("debt=-limit", pays && debt == -limit);
+    m.see("debt=-limit-1", pays && debt == -limit - 1);
+    m.see("debt=limit=2^32", pays && limit == 1 << 32 && debt == limit);
+    m.see("debt=-limit=-2^32", pays && limit == 1 << 32 && debt == -limit);
+    m.see("29-before-32", number == 29 && limit == 0);
+    m.see("32-without-debt", number == 32 && debt == 0);
+    m.see("32-with-debt", number == 32 && debt > 0);
+    m.see("32-with-debt-below", number == 32 && debt < 0);
+    let left = handed_back(answer);
+    m.see("run-paid", run && pays && debt > 0);
+    m.see("run-paid-below", run && pays && debt < 0);
+    m.see("run-paid-out", run && pays && debt > 0 && left == Some(0));
+    m.see("run-paid-out-below", run && pays && debt < 0 && left == Some(0));
+    m.see("run-without-debt", run && pays && debt == 0);
+    m.see("run-32", run && number == 32 && debt != 0);
 }
