@@ -2,6 +2,7 @@
 mod answers;
 mod asks;
 mod input;
+mod ledgers;
 mod lent;
 mod output;
 mod packets;
@@ -36,6 +37,8 @@ fn answer_to(line: &[u8]) -> Answer {
         0x09 => asks::arrival(line).if_well_formed((29 <= n) & (n <= 109) & has_record(line)),
         0x0A => asks::give_up(line).if_well_formed((n == 29) & has_record(line)),
         0x0B => replies::reply(line).if_well_formed(replies::is_well_formed(line)),
+        0x0C => ledgers::entry(line).if_well_formed(n == 18),
+        0x0D => ledgers::tick(line).if_well_formed(n == 17),
         0xF0 => asks::fresh().if_well_formed(n == 1),
         0xF1 => times::constants().if_well_formed(n == 1),
         0xF2 => times::halve(line).if_well_formed(n == 9),

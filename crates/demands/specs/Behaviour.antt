@@ -1,4 +1,4 @@
--- What some client, some server and the parts under them do. The demands are asked of any such behaviour: of ours, and of impostors.
+-- What some client, some server, the parts under them and a ledger above them do. The demands are asked of any such behaviour: of ours, and of impostors.
 use Prim.Native.Nat.{ℕ, zero, suc}
 use mathlib.Core.List.{List, []}
 use lib.IntN.{ℤ}
@@ -22,6 +22,10 @@ use Rattle.client.specs.Record as record-of
 use Rattle.client.specs.Ask.{asked, askedBuffer}
 use Rattle.client.specs.Arrival.{arrived}
 use Rattle.client.specs.GiveUp.{gaveUp}
+use Rattle.ledger.specs.declared.Ledger.{Ledger}
+use Rattle.ledger.specs.declared.Entered.{Entered}
+use Rattle.ledger.specs.declared.Ticked.{Ticked}
+use Rattle.ledger.specs.Ledger.{entered, ticked}
 use Rattle.server.specs.declared.Settings.{Settings}
 use Rattle.server.specs.declared.ReplyAnswer.{ReplyAnswer}
 use Rattle.server.specs.Server.{replied, repliedBuffer}
@@ -74,6 +78,8 @@ pub record Behaviour : Type 0 where
   pub date : Timestamp → DateAnswer
   pub timestamp : Date → TimestampAnswer
   pub precision : (tick : ℕ) → PrecisionAnswer
+  pub enter : Ledger → (offset : ℤ) (half : ℕ) → Entered
+  pub pay : Ledger → (limit : ℕ) → Ticked
   pub line : Client → (line : List ℕ) → Reply  -- a line of a replay, its line feed left out
 
 -- ---- ours: the definitions that the contracts of the code cite
@@ -123,5 +129,7 @@ ours = record {
   date = dateOf;
   timestamp = timestampOf;
   precision = precisionOf;
+  enter = entered;
+  pay = ticked;
   line = replay.reply;
 }

@@ -49,6 +49,8 @@ with step reply read write date timestamp precision line = record {
   date = date;
   timestamp = timestamp;
   precision = precision;
+  enter = ours .enter;
+  pay = ours .pay;
   line = line;
 }
 

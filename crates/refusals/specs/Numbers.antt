@@ -120,6 +120,18 @@ tick-out-of-range = 28
 abbrev pub record-not-legal : ℕ
 record-not-legal = 29
 
+-- half not 0 or 1, or an entry of 2^41 half units or more in size
+abbrev pub entry-too-large : ℕ
+entry-too-large = 30
+
+-- the debt would reach 2^50 half units in size
+abbrev pub debt-too-large : ℕ
+debt-too-large = 31
+
+-- limit not 1 to 2^32 half units
+abbrev pub limit-out-of-range : ℕ
+limit-out-of-range = 32
+
 -- replay line malformed
 abbrev pub line-malformed : ℕ
 line-malformed = 64
@@ -156,6 +168,9 @@ numbers =
     ∷ field-too-large
     ∷ tick-out-of-range
     ∷ record-not-legal
+    ∷ entry-too-large
+    ∷ debt-too-large
+    ∷ limit-out-of-range
     ∷ line-malformed
     ∷ []
 

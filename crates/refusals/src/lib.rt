@@ -90,11 +90,20 @@ pub const TICK_OUT_OF_RANGE: u8 = 28;
 // Record handed in not legal.
 pub const RECORD_NOT_LEGAL: u8 = 29;
 
+// Half not 0 or 1, or an entry of 2^41 half units or more in size.
+pub const ENTRY_TOO_LARGE: u8 = 30;
+
+// The debt would reach 2^50 half units in size.
+pub const DEBT_TOO_LARGE: u8 = 31;
+
+// Limit not 1 to 2^32 half units.
+pub const LIMIT_OUT_OF_RANGE: u8 = 32;
+
 // Replay line malformed.
 pub const LINE_MALFORMED: u8 = 64;
 
 // All of them, in the order of document 01's table.
-pub fn numbers() -> [u8; 30]
+pub fn numbers() -> [u8; 33]
     ensures { λ r. ⌜ r ≡ numbers ⌝ }
 {
     [
@@ -127,6 +136,9 @@ pub fn numbers() -> [u8; 30]
         FIELD_TOO_LARGE,
         TICK_OUT_OF_RANGE,
         RECORD_NOT_LEGAL,
+        ENTRY_TOO_LARGE,
+        DEBT_TOO_LARGE,
+        LIMIT_OUT_OF_RANGE,
         LINE_MALFORMED,
     ]
 }

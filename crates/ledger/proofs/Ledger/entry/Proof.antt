@@ -1,0 +1,109 @@
+-- `ledger::Ledger::entry` meets its contract: its tests are the definition's. Assumes nothing.
+use Prim.Native.Nat.{_^_, _<_, _≤_}
+use native.Mathlib.Omega.{arith}
+use mathlib.Core.Path.{_≡_, ap, sym, _∙_}
+use mathlib.Core.Bool.{true, false}
+use lib.IntN.{natAbs, _+ℤ_}
+use mir.Syntax.{w64}
+use mir.Val.{SFits}
+use mir.Facts.{toZ-ofZ}
+use borrow.Author.Needs.{needs}
+use Rattle.ledger.specs.Ledger.{halfUnits, tooMuch, tooLarge, entryTests}
+use Rattle.ledger.proofs.Sizes.{not-much, not-large}
+use Rattle.ledger.proofs.Ledger.entry.Statement.{statement}
+use Rattle.ledger.proofs.Ledger.entry.Tie as tie
+
+-- the tests, of the numbers themselves
+legal : (c : tie.After-too-much) → c .too-much .result ≡ tooMuch (c .before .before .args .self .debt)
+legal c =
+    let d : SFits w64 (c .before .before .args .self .debt) = search needs in
+    c .too-much .ensures ∙ ap tooMuch (toZ-ofZ d)
+
+small : (c : tie.After-too-large) → c .too-large .result ≡ tooLarge (c .before .before .before .before .args .offset) (c .before .before .before .before .args .half)
+small c =
+    let s = c .before .before .before .before in
+    c .too-large .ensures ∙ ap (λ z. tooLarge z (s .args .half)) (toZ-ofZ (s .fits .offset))
+
+returns : tie.Need-returns
+unfolding entryTests
+returns c =
+    let t = c .before in
+    c .refused-entry .ensures ∙ rw (sym (legal (t .before)) ∙ t .if1 .taken)
+
+returns-2 : tie.Need-returns-2
+unfolding entryTests
+returns-2 c =
+    let t = c .before in
+    let e = t .before .before in
+    c .refused-entry2 .ensures ∙ rw (sym (legal (e .before)) ∙ e .if1 .left, sym (small (t .before)) ∙ t .if2 .taken)
+
+half-units-requires : tie.Need-half-units-requires
+half-units-requires c κs =
+    let s = c .before .before .before .before .before in
+    let n = not-large (s .args .offset) (s .args .half) (sym (small (c .before)) ∙ c .if2 .left) in
+    rw (toZ-ofZ (s .fits .offset)) (n .0, n .1)
+
+-- the entry in half units, and the sum
+units : (c : tie.After-half-units) → c .half-units .result ≡ halfUnits (c .before .before .before .before .before .before .args .offset) (c .before .before .before .before .before .before .args .half)
+units c =
+    let s = c .before .before .before .before .before .before in
+    c .half-units .ensures ∙ ap (λ z. halfUnits z (s .args .half)) (toZ-ofZ (s .fits .offset))
+
+sum-requires : tie.Need-sum-requires
+sum-requires c κs =
+    let h = c .before in
+    let e = h .before in
+    let l = e .before .before in
+    let s = l .before .before .before in
+    let d : SFits w64 (s .args .self .debt) = search needs in
+    let r : SFits w64 (h .half-units .result) = search needs in
+    let n = not-large (s .args .offset) (s .args .half) (sym (small (e .before)) ∙ e .if2 .left) in
+    let m = not-much (s .args .self .debt) (sym (legal (l .before)) ∙ l .if1 .left) in
+    rw (toZ-ofZ d, toZ-ofZ r, units h) (omega arith, omega arith)
+
+owed : (c : tie.After-sum) → c .sum .result ≡ c .before .before .before .before .before .before .before .before .args .self .debt +ℤ halfUnits (c .before .before .before .before .before .before .before .before .args .offset) (c .before .before .before .before .before .before .before .before .args .half)
+owed c =
+    let h = c .before .before in
+    let d : SFits w64 (h .before .before .before .before .before .before .args .self .debt) = search needs in
+    let r : SFits w64 (h .half-units .result) = search needs in
+    c .sum .ensures ∙ (λ i. toZ-ofZ d i +ℤ (toZ-ofZ r ∙ units h) i)
+
+reached : (c : tie.After-too-much2) → c .too-much2 .result ≡ tooMuch (c .before .before .before .before .before .before .before .before .before .args .self .debt +ℤ halfUnits (c .before .before .before .before .before .before .before .before .before .args .offset) (c .before .before .before .before .before .before .before .before .before .args .half))
+reached c =
+    let r : SFits w64 (c .before .sum .result) = search needs in
+    c .too-much2 .ensures ∙ ap tooMuch (toZ-ofZ r ∙ owed (c .before))
+
+returns-3 : tie.Need-returns-3
+unfolding entryTests
+returns-3 c =
+    let t = c .before in
+    let e = t .before .before .before .before .before in
+    let l = e .before .before in
+    c .refused-entry3 .ensures
+    ∙ rw (sym (legal (l .before)) ∙ l .if1 .left, sym (small (e .before)) ∙ e .if2 .left, sym (reached (t .before)) ∙ t .if3 .taken)
+
+returns-4 : tie.Need-returns-4
+unfolding entryTests
+returns-4 c =
+    let k = c .before .before in
+    let e = k .before .before .before in
+    let l = e .before .before in
+    let r : SFits w64 (k .sum .result) = search needs in
+    rw (sym (legal (l .before)) ∙ l .if1 .left, sym (small (e .before)) ∙ e .if2 .left, sym (reached (c .before)) ∙ c .if3 .left, toZ-ofZ r, owed k)
+
+pub entry-spec : {M : Type 1} → statement M
+entry-spec =
+    tie.close
+    (tie.spec
+    (λ c κs. search needs)
+    (λ c κs. search needs)
+    returns
+    (λ c κs. search needs)
+    (λ c κs. search needs)
+    returns-2
+    half-units-requires
+    sum-requires
+    (λ c κs. search needs)
+    (λ c κs. search needs)
+    returns-3
+    returns-4)
