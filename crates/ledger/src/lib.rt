@@ -1,9 +1,9 @@
 // A ledger that pays clock corrections out slowly. It is kept in half units, 2^-33 s, so that no half of an accepted offset is lost.
 //
-// The caller's part: an entry that was taken is owed, and the clock readings that the caller gives the client from then on count it in, rounded down to
-// the unit, as if the clock had been corrected at once. Otherwise the next exchange would measure the same difference again, and it would be owed twice.
-// After an accepted offset of 5 with half 1 the entry is 11 half units; from then on the caller adds 5 units to each reading, and each tick hands it what
-// to correct the clock by in truth.
+// The caller's part: the clock readings that it gives the client count in every entry taken, paid or not, rounded down to the unit. Otherwise the next
+// exchange would measure the same difference again, and it would be owed twice. After an accepted offset of 5 with half 1 the entry is 11 half units, and
+// the caller hands the client its clock's reading plus 5 units. After a tick that paid 4 half units the clock is 2 units further and 7 half units are
+// still owed: the caller adds 3 units, and the reading is the same.
 ghost use mathlib.Core.Path.{_≡_};
 ghost use mathlib.Core.Bool.{not};
 ghost use Rattle.refusals.specs.Tests.{between};
