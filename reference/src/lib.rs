@@ -3,9 +3,11 @@
 //! answers can be compared octet for octet with another program's.
 
 pub mod calendar;
+pub mod calendar_benchmark;
 pub mod client;
 pub mod conformance;
 pub mod count;
+pub mod direct_calendar;
 pub mod generate_conformance;
 pub mod generate_ledger;
 pub mod generate_replay;

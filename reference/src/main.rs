@@ -1,4 +1,4 @@
-use reference::{conformance, count, generate_conformance, generate_replay, replay};
+use reference::{calendar_benchmark, conformance, count, generate_conformance, generate_replay, replay};
 use std::io::{self, Write};
 use std::process::ExitCode;
 
@@ -8,7 +8,8 @@ const USE: &str = "usage:
   reference generate conformance COUNT SEED [open]
   reference generate replay COUNT SEED [open]
   reference count conformance LINES ANSWERS
-  reference count replay FRAMES ANSWERS";
+  reference count replay FRAMES ANSWERS
+  reference calendar walk|direct D|T";
 
 fn main() -> ExitCode {
     let words: Vec<String> = std::env::args().skip(1).collect();
@@ -66,6 +67,10 @@ fn run(words: &[&str]) -> Result<bool, String> {
             }
             Ok(missing.is_empty())
         }
+        ["calendar", calendar, direction] => match calendar_benchmark::line(calendar, direction) {
+            Some(line) => told(output.write_all(line.as_bytes())),
+            None => Err(USE.to_string()),
+        },
         _ => Err(USE.to_string()),
     }
 }
