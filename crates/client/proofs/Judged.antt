@@ -11,9 +11,10 @@ use Rattle.timestamp.specs.Timestamp.{_⊖_}
 use Rattle.offset.specs.declared.OffsetAnswer.{OffsetAnswer}
 use Rattle.offset.specs.Offset.{offsetTests, measured}
 use Rattle.packet.specs.declared.Fields.{Fields}
+use Rattle.sanity.specs.Sanity.{useTests}
 use Rattle.client.specs.declared.Client.{Client}
 use Rattle.client.specs.declared.Arrived.{Arrived}
-use Rattle.client.specs.Arrival.{refusedArrived, kissed, settled, matchTests, useTests, replyTests}
+use Rattle.client.specs.Arrival.{refusedArrived, kissed, settled, matchTests, replyTests}
 
 module _ (c : Client) (f : Fields) (t4 : Timestamp) where
   -- the tables after the first, and after the second

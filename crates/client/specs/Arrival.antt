@@ -1,19 +1,20 @@
 -- Arrival: a packet that came in, and what the client makes of it (document 01, "The client").
 use Prim.Native.Nat.{ℕ}
-use mathlib.Core.Bool.{Bool, not, _||_}
+use mathlib.Core.Bool.{Bool, not}
 use mathlib.Core.List.{List}
-use lib.Dec.{eqb, ltb}
+use lib.Dec.{eqb}
 use lib.IntN.{ℤ, pos}
 use Rattle.numbers.specs.Octets.{octets}
-use Rattle.refusals.specs.Numbers.{record-not-legal, packet-length-wrong, not-waiting, originate-mismatch, reply-mode-wrong, version-mismatch, own-clock-zero, server-unsynchronised, stratum-too-high, server-timestamp-zero}
+use Rattle.refusals.specs.Numbers.{record-not-legal, packet-length-wrong, not-waiting, originate-mismatch, reply-mode-wrong, version-mismatch}
 use Rattle.refusals.specs.Tests.{Tests, _if_else_, _when_else_, answer, carry}
 use Rattle.timestamp.specs.declared.Timestamp.{Timestamp}
-use Rattle.timestamp.specs.Timestamp.{isZero, _⊖_}
+use Rattle.timestamp.specs.Timestamp.{_⊖_}
 use Rattle.offset.specs.declared.OffsetAnswer.{OffsetAnswer}
 use Rattle.offset.specs.Offset.{offsetTests}
 use Rattle.packet.specs.declared.Fields.{Fields}
 use Rattle.packet.specs.Packet.{wrongLength, fieldsOf}
 use Rattle.kiss.specs.Kiss.{rowOf}
+use Rattle.sanity.specs.Sanity.{useTests}
 use Rattle.client.specs.declared.Phase.the-variants.{Idle, Stopped}
 use Rattle.client.specs.declared.Client.{Client}
 use Rattle.client.specs.declared.ArrivalAnswer.{ArrivalAnswer}
@@ -43,15 +44,6 @@ matchTests c wrong f rest =
     originate-mismatch if not (eqb (f .originate .0) (c .transmit .0)) else
     reply-mode-wrong if not (eqb (f .mode) 4) else
     version-mismatch if not (eqb (f .version) (c .version)) else
-    rest
-
--- the reply is of use; then the rest
-abbrev pub useTests : {A : Type 0} → Fields → Timestamp → Tests A → Tests A
-useTests f t4 rest =
-    own-clock-zero if isZero t4 else
-    server-unsynchronised if eqb (f .leap) 3 else
-    stratum-too-high if ltb 15 (f .stratum) else
-    server-timestamp-zero if isZero (f .receive) || isZero (f .transmit) else
     rest
 
 -- the tests of a reply with the fields f: T1 is what the client keeps of its request, T2 and T3 are the receive and the transmit timestamp

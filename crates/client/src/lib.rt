@@ -9,7 +9,7 @@ ghost use Rattle.refusals.specs.Tests.{number, answer, pass};
 ghost use Rattle.client.specs.Record.{isIdle, isWaiting, isStopped, fresh, isFresh, illegal, tooSoon, without};
 ghost use Rattle.client.specs.Ask.{request, askTests, asked, askedBuffer};
 ghost use Rattle.client.specs.GiveUp.{giveUpTests, gaveUp};
-ghost use Rattle.client.specs.Arrival.{refusedArrived, kissed, settled, matchTests, useTests, replyTests, arrived};
+ghost use Rattle.client.specs.Arrival.{refusedArrived, kissed, settled, matchTests, replyTests, arrived};
 use offset::OffsetAnswer;
 use packet::Fields;
 use packet::FieldsAnswer;
@@ -337,7 +337,7 @@ impl Client {
         if f.stratum == 0 {
             return self.kissed(f.identifier);
         }
-        let n = use_number(f, t4);
+        let n = sanity::first_refusal(f, t4);
         if n != 0 {
             return self.refused(n);
         }
@@ -356,20 +356,4 @@ impl Client {
             FieldsAnswer::Fields(f) => self.judged(f, t4),
         }
     }
-}
-
-// Whether the reply is of use.
-fn use_number(f: Fields, t4: Timestamp) -> u8
-    ensures { λ r. ⌜ r ≡ number (useTests f t4 pass) ⌝ }
-{
-    let n = or_else(0, t4.is_zero(), refusals::OWN_CLOCK_ZERO);
-    let n = or_else(n, f.leap == 3, refusals::SERVER_UNSYNCHRONISED);
-    let n = or_else(n, 15 < f.stratum, refusals::STRATUM_TOO_HIGH);
-    let receive = f.receive;
-    let transmit = f.transmit;
-    or_else(
-        n,
-        receive.is_zero() | transmit.is_zero(),
-        refusals::SERVER_TIMESTAMP_ZERO,
-    )
 }

@@ -13,9 +13,10 @@ use Rattle.timestamp.specs.Timestamp.{isZero, _⊖_}
 use Rattle.offset.specs.Offset.{offsetTests}
 use Rattle.packet.specs.declared.Fields.{Fields}
 use Rattle.packet.specs.Packet.{wrongLength, fieldsOf}
+use Rattle.sanity.specs.Sanity.{useTests}
 use Rattle.client.specs.declared.Client.{Client}
 use Rattle.client.specs.declared.Arrived.{Arrived}
-use Rattle.client.specs.Arrival.{refusedArrived, kissed, settled, matchTests, useTests, replyTests, arrivalTests, arrived}
+use Rattle.client.specs.Arrival.{refusedArrived, kissed, settled, matchTests, replyTests, arrivalTests, arrived}
 use Rattle.demands.specs.Behaviour.{arrival, refused, numberOf, saidArrival, Outcome, step}
 use Rattle.demands.specs.Taken.{Answers, Kissed, stops, Acceptable, accepts}
 use Rattle.demands.specs.Demand2.{Exactly, Accepted, IsKiss, By}

@@ -24,12 +24,13 @@ use Rattle.calendar.specs.Dates.{date, exists, secondsTo, dateAt}
 use Rattle.calendar.specs.Calendar.{secondsAt, inWindow, eraSeconds}
 use Rattle.precision.specs.declared.PrecisionAnswer.{PrecisionAnswer}
 use Rattle.precision.specs.Precision.{least}
+use Rattle.sanity.specs.Sanity.{useTests}
 use Rattle.client.specs.declared.Client.{Client}
 use Rattle.client.specs.declared.Phase.the-variants.{Idle}
 use Rattle.client.specs.declared.Arrived.{Arrived}
 use Rattle.client.specs.Record.{fresh, isWaiting, illegal, without}
 use Rattle.client.specs.Ask.{request}
-use Rattle.client.specs.Arrival.{refusedArrived, kissed, settled, matchTests, useTests, arrivalTests}
+use Rattle.client.specs.Arrival.{refusedArrived, kissed, settled, matchTests, arrivalTests}
 use Rattle.server.specs.declared.Settings.{Settings}
 use Rattle.replay_lines.specs.Frames.{Reply}
 use Rattle.demands.specs.Behaviour.{Call, ask, arrival, giveUp, lent, Result, refused, done, accepted, kiss, Outcome, Written, Behaviour, saidArrival, step, ours}

@@ -1,7 +1,7 @@
--- `client::use_number` meets its contract: its lines are the table's. Assumes nothing.
+-- `sanity::first_refusal` meets its contract: its lines are the table's. Assumes nothing.
 use Rattle.refusals.proofs.Tests.{last-line, line, first-line}
-use Rattle.client.proofs.use_number.Statement.{statement}
-use Rattle.client.proofs.use_number.Tie as tie
+use Rattle.sanity.proofs.first_refusal.Statement.{statement}
+use Rattle.sanity.proofs.first_refusal.Tie as tie
 
 returns : tie.Need-returns
 returns c =
@@ -16,5 +16,5 @@ returns c =
     (line _ _ _ tt (third .or-else3 .ensures)
     (last-line _ _ _ _ (rw (transmit .is-zero3 .ensures, receive .is-zero2 .ensures) at (c .or-else4 .ensures))))))
 
-pub use-number-spec : {M : Type 1} → statement M
-use-number-spec = tie.close (tie.spec _ _ _ _ _ _ _ returns)
+pub first-refusal-spec : {M : Type 1} → statement M
+first-refusal-spec = tie.close (tie.spec _ _ _ _ _ _ _ returns)
