@@ -166,6 +166,12 @@ pub fn arrival(client: &Client, octets: &[u8], t4: u64) -> (Arrival, Client) {
     if fields.receive == 0 || fields.transmit == 0 {
         return refused(14);
     }
+    if fields.root_delay < 0 || fields.root_delay >= 65536 {
+        return refused(33);
+    }
+    if fields.root_dispersion >= 65536 {
+        return refused(34);
+    }
     match time::measure(client.transmit, fields.receive, fields.transmit, t4) {
         Err(number) => refused(number),
         Ok(measured) => {
@@ -251,29 +257,33 @@ mod tests {
         assert_eq!(ask(&bad, &mut buffer[..0], 0, 0, 0), (29, bad));
     }
 
+    /// The number of the plain reply's arrival after a change; 100 and the
+    /// row for a kiss.
+    fn number(change: &dyn Fn(&mut packet::Fields), t4: u64) -> u8 {
+        let c = waiting();
+        let mut fields = plain();
+        change(&mut fields);
+        let (result, next) = arrival(&c, &reply(fields), t4);
+        match result {
+            Arrival::Refused(n) => {
+                assert_eq!(next, c);
+                n
+            }
+            Arrival::Accepted(_) => {
+                assert_eq!((next.phase, next.exponent, next.transmit), (Phase::Idle, 6, 0));
+                0
+            }
+            Arrival::Kiss { row, .. } => {
+                assert_eq!(next.phase, Phase::Stopped);
+                100 + row
+            }
+        }
+    }
+
     #[test]
     fn arrival_numbers() {
         let c = waiting();
         let t4 = 1u64 << 32;
-        let number = |change: &dyn Fn(&mut packet::Fields), t4: u64| {
-            let mut fields = plain();
-            change(&mut fields);
-            let (result, next) = arrival(&c, &reply(fields), t4);
-            match result {
-                Arrival::Refused(n) => {
-                    assert_eq!(next, c);
-                    n
-                }
-                Arrival::Accepted(_) => {
-                    assert_eq!((next.phase, next.exponent, next.transmit), (Phase::Idle, 6, 0));
-                    0
-                }
-                Arrival::Kiss { row, .. } => {
-                    assert_eq!(next.phase, Phase::Stopped);
-                    100 + row
-                }
-            }
-        };
         assert_eq!(number(&|_| {}, t4), 0);
         assert_eq!(number(&|f| f.originate += 1, t4), 9);
         assert_eq!(number(&|f| f.mode = 3, t4), 10);
@@ -307,6 +317,108 @@ mod tests {
         assert_eq!(arrival(&c, &[0; 47], t4).0, Arrival::Refused(7));
         assert_eq!(arrival(&FRESH, &[0; 47], t4).0, Arrival::Refused(7));
         assert_eq!(arrival(&FRESH, &[0; 48], t4).0, Arrival::Refused(8));
+    }
+
+    #[test]
+    fn root_fields() {
+        let t4 = 1u64 << 32;
+        let delays = [
+            (0, 0),
+            (1, 0),
+            (65535, 0),
+            (65536, 33),
+            (65537, 33),
+            (i32::MAX, 33),
+            (i32::MIN, 33),
+            (-65536, 33),
+            (-1, 33),
+        ];
+        for (delay, wanted) in delays {
+            assert_eq!(number(&|f| f.root_delay = delay, t4), wanted, "{delay}");
+        }
+        let dispersions = [
+            (0, 0),
+            (1, 0),
+            (65535, 0),
+            (65536, 34),
+            (65537, 34),
+            ((1 << 31) - 1, 34),
+            (1 << 31, 34),
+            (u32::MAX, 34),
+        ];
+        for (dispersion, wanted) in dispersions {
+            assert_eq!(number(&|f| f.root_dispersion = dispersion, t4), wanted, "{dispersion}");
+        }
+        let largest = |f: &mut packet::Fields| {
+            f.root_delay = 65535;
+            f.root_dispersion = 65535;
+        };
+        assert_eq!(number(&largest, t4), 0);
+    }
+
+    #[test]
+    fn kisses_with_root_fields() {
+        let t4 = 1u64 << 32;
+        for (i, name) in KISSES.iter().enumerate() {
+            let kiss = |f: &mut packet::Fields| {
+                f.stratum = 0;
+                f.root_delay = -1;
+                f.root_dispersion = u32::MAX;
+                f.identifier.copy_from_slice(name.as_bytes());
+            };
+            assert_eq!(number(&kiss, t4), 101 + i as u8);
+        }
+    }
+
+    #[test]
+    fn root_after_others() {
+        let t4 = 1u64 << 32;
+        // Each fault that comes first, with both root fields out of range.
+        let after = |change: &dyn Fn(&mut packet::Fields), t4: u64| {
+            let both = |f: &mut packet::Fields| {
+                f.root_delay = -1;
+                f.root_dispersion = u32::MAX;
+                change(f);
+            };
+            number(&both, t4)
+        };
+        assert_eq!(after(&|f| f.originate += 1, t4), 9);
+        assert_eq!(after(&|f| f.mode = 3, t4), 10);
+        assert_eq!(after(&|f| f.version = 3, t4), 11);
+        assert_eq!(after(&|_| {}, 0), 3);
+        assert_eq!(after(&|f| f.leap = 3, t4), 12);
+        assert_eq!(after(&|f| f.stratum = 16, t4), 13);
+        assert_eq!(after(&|f| f.receive = 0, t4), 14);
+        assert_eq!(after(&|f| f.transmit = 0, t4), 14);
+        assert_eq!(after(&|_| {}, t4), 33);
+    }
+
+    #[test]
+    fn root_before_timestamps() {
+        let t4 = 1u64 << 32;
+        // Each of the two with a fault that comes later.
+        let far = (1u64 << 32) + (1 << 62);
+        let later = [
+            (1 << 32, 1 << 32, t4 - 1),
+            (1 << 32, 1 << 32, t4 + (1 << 36) + 1),
+            (1 << 32, (1 << 32) - 1, t4),
+            (1 << 32, (1 << 32) + 6, t4 + 5),
+            (far, far, t4),
+        ];
+        for (i, (receive, transmit, t4)) in later.into_iter().enumerate() {
+            let timed = |delay: i32, dispersion: u32| {
+                let change = |f: &mut packet::Fields| {
+                    f.receive = receive;
+                    f.transmit = transmit;
+                    f.root_delay = delay;
+                    f.root_dispersion = dispersion;
+                };
+                number(&change, t4)
+            };
+            assert_eq!(timed(65536, 0), 33);
+            assert_eq!(timed(0, 65536), 34);
+            assert_eq!(timed(65535, 65535), 15 + i as u8);
+        }
     }
 
     #[test]

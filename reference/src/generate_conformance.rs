@@ -342,6 +342,11 @@ fn ask(r: &mut Random, line: &mut Vec<u8>) {
     put8(line, when);
 }
 
+/// What an arrival is spoiled by, in the order of its tests, 0 for a kiss.
+/// Kisses, the originate test and the last two occur more often.
+const FAULTS: [u8; 21] =
+    [7, 9, 9, 10, 11, 0, 0, 0, 3, 12, 13, 14, 33, 34, 15, 16, 17, 18, 18, 19, 19];
+
 fn arrival(r: &mut Random, line: &mut Vec<u8>) {
     line.push(0x09);
     let client = record(r, 1);
@@ -351,7 +356,7 @@ fn arrival(r: &mut Random, line: &mut Vec<u8>) {
     let faults = r.pick(&[0, 0, 1, 1, 1, 1, 1, 2, 2, 3]);
     let mut bad_length = false;
     for _ in 0..faults {
-        let number = r.pick(&[0, 0, 0, 3, 7, 9, 9, 10, 11, 12, 13, 14, 15, 16, 17, 18, 18, 19, 19]);
+        let number = r.pick(&FAULTS);
         if number == 7 {
             bad_length = true;
         }

@@ -92,7 +92,8 @@ impl Gateway {
 
     /// An arrival that does not pass, and is no kiss for us.
     fn bad_arrival(&mut self, line: &mut Vec<u8>) {
-        const FAULTS: [u8; 15] = [3, 7, 9, 9, 10, 11, 12, 13, 14, 15, 16, 17, 18, 18, 19];
+        const FAULTS: [u8; 17] =
+            [3, 7, 9, 9, 10, 11, 12, 13, 14, 33, 34, 15, 16, 17, 18, 18, 19];
         let first = self.r.pick(&FAULTS);
         if self.r.one_in(10) {
             // A stranger's kiss.

@@ -7,6 +7,8 @@ use crate::random::Random;
 const SECOND: u64 = 1 << 32;
 const LIMIT: u64 = 1 << 36;
 const QUARTER: i64 = 1 << 62;
+/// One second of root delay or root dispersion.
+const ROOT_LIMIT: u64 = 1 << 16;
 
 /// Any timestamp, the edges often.
 pub fn timestamp(r: &mut Random) -> u64 {
@@ -120,6 +122,30 @@ pub fn kiss_code(r: &mut Random) -> [u8; 4] {
     code
 }
 
+/// A root delay or dispersion that passes, the edges often.
+fn small_root(r: &mut Random) -> u32 {
+    match r.below(8) {
+        0..=2 => 0,
+        3 => 1,
+        4 => ROOT_LIMIT as u32 - 1,
+        _ => r.below(ROOT_LIMIT) as u32,
+    }
+}
+
+/// The 32 bits of a root delay or dispersion that does not pass. One function
+/// serves both: a negative delay, read without its sign, is 2^31 or more.
+fn large_root(r: &mut Random) -> u32 {
+    let limit = ROOT_LIMIT as u32;
+    match r.below(6) {
+        0 => r.pick(&[limit, u32::MAX]),
+        1 => r.pick(&[limit + 1, (1 << 31) - 1, 1 << 31, (1 << 31) + 1]),
+        // Just above the line, and small negative delays.
+        2 => limit + r.below(ROOT_LIMIT) as u32,
+        3 => u32::MAX - r.below(ROOT_LIMIT) as u32,
+        _ => limit + r.below((1 << 32) - ROOT_LIMIT) as u32,
+    }
+}
+
 /// A reply that passes every test, bar a clock that happens to be zero.
 pub fn good_reply(r: &mut Random, t1: u64, version: u8) -> Reply {
     let e = elapsed(r);
@@ -133,8 +159,8 @@ pub fn good_reply(r: &mut Random, t1: u64, version: u8) -> Reply {
         stratum: if r.one_in(3) { r.pick(&[1, 14, 15]) } else { 1 + r.below(15) as u8 },
         poll: if r.one_in(2) { 0 } else { r.octet() },
         precision: if r.one_in(2) { -20 } else { r.octet() as i8 },
-        root_delay: if r.one_in(2) { 0 } else { r.next() as i32 },
-        root_dispersion: if r.one_in(2) { 0 } else { r.next() as u32 },
+        root_delay: small_root(r) as i32,
+        root_dispersion: small_root(r),
         identifier: identifier(r),
         reference: timestamp(r),
         originate: t1,
@@ -158,6 +184,13 @@ pub fn spoil(r: &mut Random, number: u8, t1: u64, reply: &mut Reply) {
             if r.one_in(4) {
                 f.receive = 0;
                 f.transmit = 0;
+            }
+            // A kiss may carry what 33 and 34 refuse.
+            if r.one_in(4) {
+                f.root_delay = large_root(r) as i32;
+            }
+            if r.one_in(4) {
+                f.root_dispersion = large_root(r);
             }
         }
         3 => reply.t4 = 0,
@@ -245,6 +278,8 @@ pub fn spoil(r: &mut Random, number: u8, t1: u64, reply: &mut Reply) {
             f.receive = t1.wrapping_add(p as u64);
             f.transmit = f.receive.wrapping_add(h);
         }
+        33 => f.root_delay = large_root(r) as i32,
+        34 => f.root_dispersion = large_root(r),
         _ => {}
     }
 }
@@ -369,5 +404,57 @@ pub fn damage(r: &mut Random, text: &mut Vec<u8>) {
         }
         10 => text.push(b'0'),
         _ => text.clear(),
+    }
+}
+
+#[cfg(test)]
+mod tests {
+    use super::*;
+    use crate::client::{arrival, Arrival, Client, Phase, FRESH};
+
+    /// The arrival of a reply, spoiled by a number if there is one.
+    fn arrived(r: &mut Random, fault: Option<u8>) -> (Fields, Arrival) {
+        // No edge here: a spoiled clock could be zero, which 3 or 14 refuses.
+        let t1 = r.next();
+        let client = Client {
+            phase: Phase::Waiting,
+            transmit: t1,
+            version: 4,
+            asked: true,
+            ..FRESH
+        };
+        let mut reply = good_reply(r, t1, 4);
+        if let Some(number) = fault {
+            spoil(r, number, t1, &mut reply);
+        }
+        let mut octets = Vec::new();
+        put_packet(&reply.fields, &mut octets);
+        (reply.fields, arrival(&client, &octets, reply.t4).0)
+    }
+
+    #[test]
+    fn good_and_spoiled() {
+        let mut r = Random::new(3);
+        for _ in 0..2000 {
+            let (fields, result) = arrived(&mut r, None);
+            assert!(matches!(result, Arrival::Accepted(_)), "{fields:?}");
+            for number in [3, 9, 10, 11, 12, 13, 14, 33, 34, 15, 16, 17, 18, 19] {
+                let (fields, result) = arrived(&mut r, Some(number));
+                assert_eq!(result, Arrival::Refused(number), "{fields:?}");
+            }
+        }
+    }
+
+    #[test]
+    fn kisses_with_any_root_fields() {
+        let mut r = Random::new(4);
+        let (mut delays, mut dispersions) = (0, 0);
+        for _ in 0..2000 {
+            let (fields, result) = arrived(&mut r, Some(0));
+            assert!(matches!(result, Arrival::Kiss { .. }), "{fields:?}");
+            delays += (fields.root_delay < 0) as u32;
+            dispersions += (fields.root_dispersion > 65535) as u32;
+        }
+        assert!(delays > 100 && dispersions > 100);
     }
 }

@@ -241,6 +241,35 @@ fn clients(lines: &mut Vec<Vec<u8>>) {
     lines.push(vec![0xF1]);
 }
 
+/// Root delay and dispersion on both sides of tests 33 and 34, and packets
+/// with another fault besides.
+fn roots(lines: &mut Vec<Vec<u8>>) {
+    let mut push = |t4: u64, fields: Fields| {
+        lines.push(arrival(&waiting(T), t4, &fields, 48));
+    };
+    let good = plain(T, T, T);
+    for root_delay in [-1, 0, 1, 65535, 65536, i32::MIN, i32::MAX] {
+        push(T, Fields { root_delay, ..good });
+    }
+    for root_dispersion in [0, 1, 65535, 65536, (1 << 31) - 1, 1 << 31, u32::MAX] {
+        push(T, Fields { root_dispersion, ..good });
+    }
+    let early = T - 1;
+    let far = T + (1 << 62);
+    let by_33 = Fields { root_delay: -1, ..good };
+    let by_34 = Fields { root_dispersion: u32::MAX, ..good };
+    for fields in [by_33, by_34] {
+        // A kiss all the same; then with 13, with 14 twice, with 15, with 19.
+        push(T, Fields { stratum: 0, identifier: *b"RATE", ..fields });
+        push(T, Fields { stratum: 16, ..fields });
+        push(T, Fields { receive: 0, ..fields });
+        push(T, Fields { transmit: 0, ..fields });
+        push(early, fields);
+        push(T, Fields { receive: far, transmit: far, ..fields });
+    }
+    push(T, Fields { root_dispersion: u32::MAX, ..by_33 });
+}
+
 /// Debts and offsets at every edge.
 fn entries(lines: &mut Vec<Vec<u8>>) {
     let mut push = |debt: i64, offset: i64, half: u8| {
@@ -355,6 +384,7 @@ pub fn lines() -> Vec<Vec<u8>> {
     ticks(&mut octets);
     lengths(&mut octets);
     clients(&mut octets);
+    roots(&mut octets);
     entries(&mut octets);
     payments(&mut octets);
     let mut lines: Vec<Vec<u8>> = octets.iter().map(|o| text(o)).collect();

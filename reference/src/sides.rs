@@ -4,8 +4,8 @@ use crate::calendar::Date;
 use crate::client::Phase;
 use crate::conformance::{get_date, get_record, lengths};
 use crate::ledger;
-use crate::packet::get8;
-use crate::time::difference;
+use crate::packet::{get8, read, Fields};
+use crate::time::{difference, measure};
 
 /// The number that stands for an accepted arrival.
 const ACCEPTED: u8 = 100;
@@ -307,66 +307,114 @@ fn ask(m: &mut Marker, rest: &[u8], number: u8) {
     m.see("29-before-1", number == 29 && n < 48);
 }
 
+/// Each length a packet can have, and what was made of it.
+fn packet_lengths(m: &mut Marker, length: usize, number: u8) {
+    for n in 0..=80 {
+        m.see_at("length-", n, length == n as usize);
+    }
+    for n in [0, 1, 47, 49, 67, 69, 80] {
+        m.see_at("refused-length-", n, number == 7 && length == n as usize);
+    }
+    m.see("accepted-48", number == ACCEPTED && length == 48);
+    m.see("accepted-68", number == ACCEPTED && length == 68);
+    m.see("kiss-68", number >= 200 && length == 68);
+}
+
+/// Both sides of the tests of a reply's first two octets and timestamps.
+fn reply_fields(m: &mut Marker, f: &Fields, number: u8) {
+    let good = number == ACCEPTED;
+    for li in 0..=2 {
+        m.see_at("accepted-li-", li, good && f.leap == li as u8);
+    }
+    for s in 1..=15 {
+        m.see_at("accepted-stratum-", s, good && f.stratum == s as u8);
+    }
+    for s in [16, 17, 255] {
+        m.see_at("refused-stratum-", s, number == 13 && f.stratum == s as u8);
+    }
+    for wrong in [0, 1, 2, 3, 5, 6, 7] {
+        m.see_at("refused-mode-", wrong, number == 10 && f.mode == wrong as u8);
+    }
+    for v in 1..=4 {
+        m.see_at("accepted-version-", v, good && f.version == v as u8);
+        m.see_at("refused-version-", v, number == 11 && f.version == v as u8);
+    }
+    m.see("receive-zero", number == 14 && f.receive == 0 && f.transmit != 0);
+    m.see("transmit-zero", number == 14 && f.receive != 0 && f.transmit == 0);
+    m.see("receive-of-ones", good && f.receive == u64::MAX);
+    m.see("originate-zero", number == 9 && f.originate == 0);
+}
+
+/// Both sides of tests 33 and 34, which a kiss does not meet.
+fn root_fields(m: &mut Marker, delay: i32, dispersion: u32, number: u8) {
+    let good = number == ACCEPTED;
+    for value in [0, 1, 65535] {
+        m.see_at("root-delay=", value, good && delay == value as i32);
+        m.see_at("root-dispersion=", value, good && dispersion == value as u32);
+    }
+    m.see("root-delay=65536", number == 33 && delay == 65536);
+    m.see("root-delay=2^31-1", number == 33 && delay == i32::MAX);
+    m.see("root-delay=-1", number == 33 && delay == -1);
+    m.see("root-delay=-2^31", number == 33 && delay == i32::MIN);
+    m.see("root-dispersion=65536", number == 34 && dispersion == 65536);
+    m.see("root-dispersion=2^31-1", number == 34 && dispersion == (1 << 31) - 1);
+    m.see("root-dispersion=2^31", number == 34 && dispersion == 1 << 31);
+    m.see("root-dispersion=2^32-1", number == 34 && dispersion == u32::MAX);
+    m.see("kiss-with-root-delay=-1", number >= 200 && delay == -1);
+    m.see("kiss-with-root-dispersion=2^32-1", number >= 200 && dispersion == u32::MAX);
+}
+
+/// Replies with two faults, answered with the first.
+fn arrival_order(m: &mut Marker, f: &Fields, t1: u64, t4: u64, number: u8) {
+    m.see("kiss-before-3", number >= 200 && t4 == 0);
+    m.see("kiss-with-li-3", number >= 200 && f.leap == 3);
+    m.see("9-before-kiss", number == 9 && f.stratum == 0);
+    m.see("10-before-kiss", number == 10 && f.stratum == 0);
+    m.see("11-before-kiss", number == 11 && f.stratum == 0);
+    m.see("3-before-12", number == 3 && f.leap == 3);
+    m.see("12-before-13", number == 12 && f.stratum > 15);
+    m.see("13-before-14", number == 13 && f.receive == 0);
+    let delayed = f.root_delay < 0 || f.root_delay >= 65536;
+    let dispersed = f.root_dispersion >= 65536;
+    let early = difference(t4, t1) < 0;
+    let far = measure(t1, f.receive, f.transmit, t4) == Err(19);
+    m.see("13-before-33", number == 13 && delayed);
+    m.see("13-before-34", number == 13 && dispersed && !delayed);
+    m.see("14-before-33", number == 14 && delayed);
+    m.see("14-before-34", number == 14 && dispersed && !delayed);
+    m.see("14-before-15", number == 14 && early);
+    m.see("33-before-34", number == 33 && dispersed);
+    m.see("33-before-15", number == 33 && early);
+    m.see("33-before-19", number == 33 && far);
+    m.see("34-before-15", number == 34 && early);
+    m.see("34-before-19", number == 34 && far);
+}
+
 fn arrival(m: &mut Marker, rest: &[u8], answer: &[u8], number: u8) {
     records(m, rest, number);
     let c = get_record(rest).unwrap();
     let t4 = get8(&rest[20..]);
     let packet = &rest[28..];
     let good = number == ACCEPTED;
-    for n in 0..=80 {
-        m.see_at("length-", n, packet.len() == n as usize);
-    }
-    for n in [0, 1, 47, 49, 67, 69, 80] {
-        m.see_at("refused-length-", n, number == 7 && packet.len() == n as usize);
-    }
-    m.see("accepted-48", good && packet.len() == 48);
-    m.see("accepted-68", good && packet.len() == 68);
-    m.see("kiss-68", number >= 200 && packet.len() == 68);
+    packet_lengths(m, packet.len(), number);
     m.see("7-before-8", number == 7 && c.phase != Phase::Waiting);
+    m.see("8-idle", number == 8 && c.phase == Phase::Idle);
+    m.see("8-stopped", number == 8 && c.phase == Phase::Stopped);
+    // A packet too short to have fields stands for zeros; its number is 7.
     let mut octets = [0u8; 48];
     if packet.len() >= 48 {
         octets.copy_from_slice(&packet[..48]);
     }
-    let (leap, version, mode) = (octets[0] / 64, octets[0] / 8 % 8, octets[0] % 8);
-    let stratum = octets[1];
-    let (receive, transmit) = (get8(&octets[32..]), get8(&octets[40..]));
-    for li in 0..=2 {
-        m.see_at("accepted-li-", li, good && leap == li as u8);
-    }
-    for s in 1..=15 {
-        m.see_at("accepted-stratum-", s, good && stratum == s as u8);
-    }
-    for s in [16, 17, 255] {
-        m.see_at("refused-stratum-", s, number == 13 && stratum == s as u8);
-    }
-    for wrong in [0, 1, 2, 3, 5, 6, 7] {
-        m.see_at("refused-mode-", wrong, number == 10 && mode == wrong as u8);
-    }
-    for v in 1..=4 {
-        m.see_at("accepted-version-", v, good && version == v as u8);
-        m.see_at("refused-version-", v, number == 11 && version == v as u8);
-    }
-    m.see("receive-zero", number == 14 && receive == 0 && transmit != 0);
-    m.see("transmit-zero", number == 14 && receive != 0 && transmit == 0);
-    m.see("receive-of-ones", good && receive == u64::MAX);
-    m.see("originate-zero", number == 9 && get8(&octets[24..]) == 0);
-    m.see("kiss-before-3", number >= 200 && t4 == 0);
-    m.see("kiss-with-li-3", number >= 200 && leap == 3);
-    m.see("9-before-kiss", number == 9 && stratum == 0);
-    m.see("10-before-kiss", number == 10 && stratum == 0);
-    m.see("11-before-kiss", number == 11 && stratum == 0);
-    m.see("3-before-12", number == 3 && leap == 3);
-    m.see("12-before-13", number == 12 && stratum > 15);
-    m.see("13-before-14", number == 13 && receive == 0);
-    m.see("14-before-15", number == 14 && difference(t4, c.transmit) < 0);
-    m.see("8-idle", number == 8 && c.phase == Phase::Idle);
-    m.see("8-stopped", number == 8 && c.phase == Phase::Stopped);
+    let f = read(&octets).unwrap();
+    reply_fields(m, &f, number);
+    root_fields(m, f.root_delay, f.root_dispersion, number);
+    arrival_order(m, &f, c.transmit, t4, number);
     for exponent in 6..=14 {
         m.see_at("accepted-exponent-", exponent, good && c.exponent == exponent as u8);
         m.see_at("kiss-exponent-", exponent, number >= 200 && c.exponent == exponent as u8);
     }
     m.see("half-1-given", good && answer.get(10) == Some(&1));
-    exchange(m, [c.transmit, receive, transmit, t4], number, ACCEPTED);
+    exchange(m, [c.transmit, f.receive, f.transmit, t4], number, ACCEPTED);
 }
 
 fn give_up(m: &mut Marker, rest: &[u8], answer: &[u8], number: u8) {

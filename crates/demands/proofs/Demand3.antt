@@ -4,6 +4,7 @@ use mathlib.Core.List.{List}
 use Prim.Native.Nat.{ℕ}
 use native.Mathlib.Omega.{arith}
 use lib.IntN.{_+ℤ_}
+use Rattle.numbers.proofs.Whole.{whole}
 use Rattle.timestamp.specs.declared.Timestamp.{Timestamp}
 use Rattle.offset.specs.Offset.{floorHalf, halfOf}
 use Rattle.packet.specs.declared.Fields.{Fields}
@@ -80,6 +81,8 @@ module _ (e : Exchange) (c : Client) (buffer : List ℕ) (version uptime : ℕ) 
     stratum = let q = ap (λ f. f .stratum) of-reply in omega arith;
     receive = λ z. g .orderly .known .1 (sym (ap (λ f. f .receive) of-reply) ∙ z);
     transmit = λ z. g .orderly .known .2 (sym (ap (λ f. f .transmit) of-reply) ∙ z);
+    «root_delay» = let q = ap (λ f. f .«root_delay») of-reply in omega (arith, whole);
+    «root_dispersion» = let q = ap (λ f. f .«root_dispersion») of-reply in omega arith;
     timely = subst (λ f. Timely t1 (f .receive) (f .transmit) t4) (sym of-reply) (timely e (g .orderly));
   }
 

@@ -1,5 +1,5 @@
 -- Each impostor is shut out by a demand.
-use Prim.Native.Nat.{ℕ}
+use Prim.Native.Nat.{ℕ, _^_}
 use mathlib.Core.Path.{_≡_, refl, sym, ap, subst, _∙_}
 use mathlib.Core.Logic.{inl}
 use mathlib.Core.Bool.{not}
@@ -11,12 +11,12 @@ use lib.IntN.{pos, negsuc, natAbs, _+ℤ_, _-ℤ_}
 use lib.Signed.{leZ, leZ-yes, _≤ℤ_}
 use mir.Facts.{and-yes}
 use Rattle.numbers.specs.Modulo.{_modulo_}
-use Rattle.numbers.specs.TwosComplement.{signed, difference}
+use Rattle.numbers.specs.TwosComplement.{signed, bits, difference}
 use Rattle.numbers.specs.Octets.{octets}
 use Rattle.numbers.proofs.Whole.{whole, size, minus}
 use Rattle.refusals.specs.Numbers.{line-malformed}
 use Rattle.timestamp.specs.declared.Timestamp.{Timestamp}
-use Rattle.timestamp.specs.Timestamp.{fromSeconds, _⊖_}
+use Rattle.timestamp.specs.Timestamp.{timestamp, fromSeconds, _⊖_}
 use Rattle.offset.specs.Offset.{floorHalf, halfOf, offsetTests}
 use Rattle.offset.specs.Offset as offset
 use Rattle.offset.specs.Halving.{twice}
@@ -43,10 +43,10 @@ use Rattle.demands.specs.Demand1.{Demand1}
 use Rattle.demands.specs.Demand2.{Done, Demand2}
 use Rattle.demands.specs.Demand3.{reading, T1, T4}
 use Rattle.demands.specs.Witnesses.{replay, buffer}
-use Rattle.demands.specs.Impostors.{refusing, alwaysWriting, takingNone, stayingWaiting, spending, kissFirst, unsignedTimes, fixing, measuring, zeroOffset, hugeDelay, halfLost, towardZero, halvedApart, neverReplying, wrongOriginate, fourthYears, roundedDown, refusingLines, droppingDigits, startingAfresh}
+use Rattle.demands.specs.Impostors.{refusing, alwaysWriting, takingNone, stayingWaiting, spending, kissFirst, unsignedTimes, rootUntested, rootDelayUnsigned, rootDispersionSigned, rootSwapped, rootAfter15, fixing, measuring, zeroOffset, hugeDelay, halfLost, towardZero, halvedApart, neverReplying, wrongOriginate, fourthYears, roundedDown, refusingLines, droppingDigits, startingAfresh}
 use Rattle.demands.specs.ShutOut.{ShutOut}
 use Rattle.demands.proofs.Witnesses.{orderly}
-use Rattle.demands.proofs.Told.{slowBack, slowOut, bothOdd, otherServer, waiting, as-ours, tells, reply-as-ours, near, inBound, kept, in-bound}
+use Rattle.demands.proofs.Told.{slowBack, slowOut, bothOdd, otherServer, waiting, as-ours, tells, with-root, refuses, reply-as-ours, near, inBound, kept, in-bound}
 
 -- no result is in the bound of two servers that are 2000 units apart
 not-both : (r : Result) → T (inBound slowBack r) → T (inBound otherServer r) → ⊥
@@ -95,11 +95,15 @@ unfolding callOf answered
 starts-afresh c waits demand = subst (λ (r : Reply). T (isWaiting (r .client .phase))) (sym (demand .line-kept c [] line-malformed refl (λ z. omega arith))) waits
 
 pub shut-out : ShutOut
-unfolding arrived arrivals.replyTests offsetTests _⊖_ difference signed _modulo_ floorHalf halfOf offset.outOfRange fieldsOf octetsOf octets request illegal askTests asked askedBuffer replied repliedBuffer server.replyTests requestTests server.outOfRange replyFields reading tooSoon gaveUp giveUpTests
+unfolding arrived arrivals.replyTests offsetTests _⊖_ difference signed _modulo_ floorHalf halfOf offset.outOfRange fieldsOf octetsOf octets request illegal askTests asked askedBuffer replied repliedBuffer server.replyTests requestTests server.outOfRange replyFields reading tooSoon gaveUp giveUpTests bits
 shut-out =
     let back = tells slowBack (negsuc 1003) 1 (pos 7) tt tt in
     let odd = tells bothOdd (negsuc 1002) 0 (pos 8) tt tt in
     let over2036 = tells replay (pos 43486543872) 0 (pos 3221225472) tt tt in
+    let delayed = refuses slowBack (with-root slowBack (negsuc 0) 0 (T4 slowBack)) tt in
+    let dispersed = refuses slowBack (with-root slowBack (pos 0) (2 ^ 31) (T4 slowBack)) tt in
+    let both = refuses slowBack (with-root slowBack (negsuc 0) 65536 (T4 slowBack)) tt in
+    let early = refuses slowBack (with-root slowBack (negsuc 0) 0 (timestamp 4999)) tt in
     let in-back = in-bound slowBack (orderly slowBack tt) in
     let in-out = in-bound slowOut (orderly slowOut tt) in
     let in-odd = in-bound bothOdd (orderly bothOdd tt) in
@@ -125,6 +129,12 @@ shut-out =
       );
       -- across 2036
       unsigned-times = (over2036 unsignedTimes, in-2036 unsignedTimes tt);
+      -- a reply with root fields out of range: 33 or 34 is the first test that holds, and each tells another number
+      root-untested = λ demand. subst (λ n. T (eqb n 0)) (delayed rootUntested demand) tt;
+      root-delay-unsigned = λ demand. subst (λ n. T (eqb n 0)) (delayed rootDelayUnsigned demand) tt;
+      root-dispersion-signed = λ demand. subst (λ n. T (eqb n 0)) (dispersed rootDispersionSigned demand) tt;
+      root-swapped = λ demand. subst (λ n. T (eqb n 34)) (both rootSwapped demand) tt;
+      root-after-15 = λ demand. subst (λ n. T (eqb n 15)) (early rootAfter15 demand) tt;
       -- a packet of 48 zero octets, which a stranger sent
       kiss-before-originate = (
         (λ demand. let e = ap (λ (t : Timestamp). t .0) (demand .client .kiss-exactly (waiting slowBack) buffer (T4 slowBack) .only tt .answers .originate) in omega arith),

@@ -5,10 +5,14 @@ use mathlib.Core.Bool.{Bool, true, false, not, _&&_, _||_}
 use Prim.Native.Nat.{ℕ, _+_, _≤_}
 use native.Mathlib.Omega.{arith}
 use lib.Dec.{T, leb, eqb, le→leb}
-use mir.Facts.{ltb-no, no-ltb, leb-yes, and-yes, yes-and, T-not-not, eqb-yes, eqb-no, no-eqb, yes-eqb}
+use lib.IntN.{ℤ, pos}
+use lib.Signed.{leZ, _≤ℤ_, _<ℤ_}
+use mir.Facts.{ltb-no, no-ltb, leb-yes, and-yes, yes-and, or-no, T-not-not, eqb-yes, eqb-no, no-eqb, yes-eqb}
+use Rattle.numbers.proofs.Whole.{whole}
 use Rattle.refusals.specs.Tests.{between}
 use Rattle.timestamp.specs.declared.Timestamp.{Timestamp}
-use Rattle.timestamp.specs.Timestamp.{timestamp, isZero}
+use Rattle.timestamp.specs.Timestamp.{timestamp, isZero, negative}
+use Rattle.sanity.specs.Sanity.{rootDelayOutOfRange}
 use Rattle.client.specs.declared.Phase.{Phase}
 use Rattle.client.specs.declared.Phase.the-variants.{Idle, Waiting, Stopped}
 use Rattle.client.specs.Record.{isWaiting, isStopped, tooSoon}
@@ -65,6 +69,14 @@ same-is t u h = ap timestamp (equal-is (t .0) (u .0) h)
 
 pub is-same : (t u : Timestamp) → t ≡ u → T (not (not (eqb (t .0) (u .0))))
 is-same t u e = is-equal (t .0) (u .0) (ap (λ (x : Timestamp). x .0) e)
+
+-- ---- root delay
+
+pub delay-is : (z : ℤ) → T (not (rootDelayOutOfRange z)) → (pos 0 ≤ℤ z) × (z <ℤ pos 65536)
+delay-is z t = let (low, high) = or-no (negative z) (leZ (pos 65536) z) t in omega (arith, whole)
+
+pub is-delay : (z : ℤ) → (pos 0 ≤ℤ z) × (z <ℤ pos 65536) → T (not (rootDelayOutOfRange z))
+is-delay z (low, high) = neither (negative z) (leZ (pos 65536) z) (omega (arith, whole)) (omega (arith, whole))
 
 -- ---- phases
 

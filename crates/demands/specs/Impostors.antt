@@ -6,12 +6,13 @@ use mathlib.Core.List.{List, [], _∷_, _++_}
 use lib.Dec.{eqb, leb, ltb}
 use lib.IntN.{ℤ, pos, _+ℤ_, _-ℤ_}
 use lib.ListN.{length, take, drop, replicate}
-use lib.Signed.{quotZ}
+use lib.Signed.{quotZ, leZ}
+use Rattle.numbers.specs.TwosComplement.{signed}
 use Rattle.numbers.specs.Octets.{part}
-use Rattle.refusals.specs.Numbers.{record-not-legal, packet-length-wrong, not-waiting, timestamp-zero, no-such-date, outside-window, tick-out-of-range, line-malformed}
+use Rattle.refusals.specs.Numbers.{record-not-legal, packet-length-wrong, not-waiting, arrived-before-sent, timestamp-zero, no-such-date, outside-window, tick-out-of-range, root-delay-out-of-range, root-dispersion-too-large, line-malformed}
 use Rattle.refusals.specs.Tests.{Tests, _if_else_, _when_else_, otherwise, answer, kept, carry}
 use Rattle.timestamp.specs.declared.Timestamp.{Timestamp}
-use Rattle.timestamp.specs.Timestamp.{fromSeconds, fractionOf, isZero}
+use Rattle.timestamp.specs.Timestamp.{fromSeconds, fractionOf, isZero, _⊖_, negative}
 use Rattle.offset.specs.Offset.{floorHalf, halfOf, offsetTests}
 use Rattle.packet.specs.declared.Fields.{Fields}
 use Rattle.packet.specs.declared.FieldsAnswer.{FieldsAnswer}
@@ -24,7 +25,7 @@ use Rattle.calendar.specs.Dates.{date, exists, secondsTo, dateAt}
 use Rattle.calendar.specs.Calendar.{secondsAt, inWindow, eraSeconds}
 use Rattle.precision.specs.declared.PrecisionAnswer.{PrecisionAnswer}
 use Rattle.precision.specs.Precision.{least}
-use Rattle.sanity.specs.Sanity.{useTests}
+use Rattle.sanity.specs.Sanity.{useTests, rootDelayOutOfRange, rootDispersionTooLarge, rootTests}
 use Rattle.client.specs.declared.Client.{Client}
 use Rattle.client.specs.declared.Phase.the-variants.{Idle}
 use Rattle.client.specs.declared.Arrived.{Arrived}
@@ -118,18 +119,53 @@ kissFirst = testing (λ c packet t4.
     kissed c (fieldsOf packet .identifier) when eqb (fieldsOf packet .stratum) 0 else
     arrivalTests c packet t4)
 
--- it compares timestamps as plain unsigned numbers
-abbrev less : Timestamp → Timestamp → ℤ
-less x y = pos (x .0) -ℤ pos (y .0)
+-- ---- the client, at a reply that is of use: other tests of its root fields and its four timestamps
 
-abbrev unsignedTests : Client → Fields → Timestamp → Tests Arrived
-unsignedTests c f t4 = carry (settled c) (offsetTests (less t4 (c .transmit)) (less (f .transmit) (f .receive)) (less (f .receive) (c .transmit)) (less (f .transmit) t4))
-
-abbrev pub unsignedTimes : Behaviour
-unsignedTimes = testing (λ c packet t4.
+abbrev judging : (Client → Fields → Timestamp → Tests Arrived) → Behaviour
+judging rest = testing (λ c packet t4.
     matchTests c (wrongLength packet) (fieldsOf packet) (
     kissed c (fieldsOf packet .identifier) when eqb (fieldsOf packet .stratum) 0 else
-    useTests (fieldsOf packet) t4 (unsignedTests c (fieldsOf packet) t4)))
+    useTests (fieldsOf packet) t4 (rest c (fieldsOf packet) t4)))
+
+-- the tests of the four timestamps, their differences taken so
+abbrev timed : (Timestamp → Timestamp → ℤ) → Client → Fields → Timestamp → Tests Arrived
+timed less c f t4 =
+    carry (settled c) (offsetTests (less t4 (c .transmit)) (less (f .transmit) (f .receive)) (less (f .receive) (c .transmit)) (less (f .transmit) t4))
+
+-- it compares timestamps as plain unsigned numbers
+abbrev pub unsignedTimes : Behaviour
+unsignedTimes = judging (λ c f t4. rootTests f (timed (λ x y. pos (x .0) -ℤ pos (y .0)) c f t4))
+
+-- it does not look at the root fields
+abbrev pub rootUntested : Behaviour
+rootUntested = judging (timed _⊖_)
+
+-- it takes root delay for an unsigned number, so that none is negative
+abbrev pub rootDelayUnsigned : Behaviour
+rootDelayUnsigned = judging (λ c f t4.
+    root-delay-out-of-range if leZ (pos 65536) (f .«root_delay») else
+    root-dispersion-too-large if rootDispersionTooLarge (f .«root_dispersion») else
+    timed _⊖_ c f t4)
+
+-- it reads root dispersion as a signed number
+abbrev pub rootDispersionSigned : Behaviour
+rootDispersionSigned = judging (λ c f t4.
+    root-delay-out-of-range if rootDelayOutOfRange (f .«root_delay») else
+    root-dispersion-too-large if leZ (pos 65536) (signed 32 (f .«root_dispersion»)) else
+    timed _⊖_ c f t4)
+
+-- it tests root dispersion before root delay
+abbrev pub rootSwapped : Behaviour
+rootSwapped = judging (λ c f t4.
+    root-dispersion-too-large if rootDispersionTooLarge (f .«root_dispersion») else
+    root-delay-out-of-range if rootDelayOutOfRange (f .«root_delay») else
+    timed _⊖_ c f t4)
+
+-- it tests the root fields after T4 - T1
+abbrev pub rootAfter15 : Behaviour
+rootAfter15 = judging (λ c f t4.
+    arrived-before-sent if negative (t4 ⊖ c .transmit) else
+    rootTests f (timed _⊖_ c f t4))
 
 -- ---- the client, at a reply that ours accepts: it tells something else
 

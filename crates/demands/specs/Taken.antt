@@ -1,6 +1,6 @@
 -- When document 01 has a call taken, its tests named one by one and in no order, and what it then does. A comment gives the number that is refused by
 -- where the fact does not hold.
-use Prim.Native.Nat.{ℕ, suc, _+_, _^_, _≤_, min}
+use Prim.Native.Nat.{ℕ, suc, _+_, _^_, _≤_, _<_, min}
 use mathlib.Core.Path.{_≡_}
 use mathlib.Core.Logic.{_≢_, _⊎_}
 use mathlib.Core.Bool.{true, false}
@@ -117,6 +117,8 @@ module _ (c : Client) (packet : List ℕ) (t4 : Timestamp) where
     pub stratum : fieldsOf packet .stratum ≤ 15  -- 13
     pub receive : fieldsOf packet .receive ≢ zero  -- 14
     pub transmit : fieldsOf packet .transmit ≢ zero  -- 14
+    pub «root_delay» : (pos 0 ≤ℤ fieldsOf packet .«root_delay») × (fieldsOf packet .«root_delay» <ℤ pos 65536)  -- 33
+    pub «root_dispersion» : fieldsOf packet .«root_dispersion» < 65536  -- 34
     pub timely : Timely (c .transmit) (fieldsOf packet .receive) (fieldsOf packet .transmit) t4  -- 15 to 19
 
   -- the offset is the greatest whole number not above (P + Q) / 2, and the half is what is left

@@ -132,6 +132,14 @@ debt-too-large = 31
 abbrev pub limit-out-of-range : ℕ
 limit-out-of-range = 32
 
+-- root delay, signed, negative or 65536 or more
+abbrev pub root-delay-out-of-range : ℕ
+root-delay-out-of-range = 33
+
+-- root dispersion, unsigned, 65536 or more
+abbrev pub root-dispersion-too-large : ℕ
+root-dispersion-too-large = 34
+
 -- replay line malformed
 abbrev pub line-malformed : ℕ
 line-malformed = 64
@@ -171,6 +179,8 @@ numbers =
     ∷ entry-too-large
     ∷ debt-too-large
     ∷ limit-out-of-range
+    ∷ root-delay-out-of-range
+    ∷ root-dispersion-too-large
     ∷ line-malformed
     ∷ []
 

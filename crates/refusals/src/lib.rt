@@ -99,11 +99,17 @@ pub const DEBT_TOO_LARGE: u8 = 31;
 // Limit not 1 to 2^32 half units.
 pub const LIMIT_OUT_OF_RANGE: u8 = 32;
 
+// Root delay, signed, negative or 65536 or more.
+pub const ROOT_DELAY_OUT_OF_RANGE: u8 = 33;
+
+// Root dispersion, unsigned, 65536 or more.
+pub const ROOT_DISPERSION_TOO_LARGE: u8 = 34;
+
 // Replay line malformed.
 pub const LINE_MALFORMED: u8 = 64;
 
 // All of them, in the order of document 01's table.
-pub fn numbers() -> [u8; 33]
+pub fn numbers() -> [u8; 35]
     ensures { λ r. ⌜ r ≡ numbers ⌝ }
 {
     [
@@ -139,6 +145,8 @@ pub fn numbers() -> [u8; 33]
         ENTRY_TOO_LARGE,
         DEBT_TOO_LARGE,
         LIMIT_OUT_OF_RANGE,
+        ROOT_DELAY_OUT_OF_RANGE,
+        ROOT_DISPERSION_TOO_LARGE,
         LINE_MALFORMED,
     ]
 }

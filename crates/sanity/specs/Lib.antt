@@ -1,1 +1,2 @@
 pub mod Sanity
+pub mod Readings
