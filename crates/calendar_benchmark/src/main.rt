@@ -75,7 +75,7 @@ fn sum_of(which: u8) -> u64 {
 
 fn put_sum(out: &mut [u8], sum: u64) -> usize {
     let mut octets = [0u8; 8];
-    octets::put64(&mut octets, 0, sum);
+    slices::put64(&mut octets, 0, sum);
     put_line(out, 0, &octets)
 }
 

@@ -48,7 +48,7 @@ impl Answer {
             return self;
         }
         let mut octets = self.octets;
-        octets::put64(&mut octets, at, x);
+        slices::put64(&mut octets, at, x);
         Answer {
             octets,
             count: at + count,
@@ -68,7 +68,7 @@ impl Answer {
     }
 
     pub(crate) fn with_signed64(self, x: i64) -> Answer {
-        self.with64(octets::bits64(x))
+        self.with64(twos_complement::bits64(x))
     }
 
     pub(crate) fn with_record(self, client: Client) -> Answer {
@@ -87,8 +87,8 @@ impl Answer {
             .with8(fields.mode)
             .with8(fields.stratum)
             .with8(fields.poll)
-            .with8(octets::bits8(fields.precision))
-            .with32(octets::bits32(fields.root_delay))
+            .with8(twos_complement::bits8(fields.precision))
+            .with32(twos_complement::bits32(fields.root_delay))
             .with32(fields.root_dispersion)
             .with32(fields.identifier)
             .with64(fields.reference.0)

@@ -10,7 +10,7 @@ use client::ArrivalAnswer;
 use client::CallAnswer;
 use client::Client;
 use client::Next;
-use octets::number64;
+use slices::number64;
 
 fn called(next: Next) -> Answer {
     let answer = next.answer;

@@ -1,9 +1,9 @@
 // What stands in the octets of an input line. Every function is total: past the end of the line there are zeros.
 use client::Client;
 use client::Phase;
-use octets::number32;
-use octets::number64;
 use packet::Fields;
+use slices::number32;
+use slices::number64;
 use timestamp::Timestamp;
 
 pub(crate) fn octet(line: &[u8], at: usize) -> u8 {
@@ -55,8 +55,8 @@ pub(crate) fn fields(line: &[u8]) -> Fields {
         mode: octet(line, 4),
         stratum: octet(line, 5),
         poll: octet(line, 6),
-        precision: octets::signed8(octet(line, 7)),
-        root_delay: octets::signed32(number32(line, 8)),
+        precision: twos_complement::signed8(octet(line, 7)),
+        root_delay: twos_complement::signed32(number32(line, 8)),
         root_dispersion: number32(line, 12),
         identifier: number32(line, 16),
         reference: timestamp(line, 20),

@@ -4,8 +4,8 @@ use crate::input::octet;
 use ledger::EntryAnswer;
 use ledger::Ledger;
 use ledger::TickAnswer;
-use octets::number64;
-use octets::signed64;
+use slices::number64;
+use twos_complement::signed64;
 
 fn ledger_in(line: &[u8]) -> Ledger {
     Ledger {

@@ -20,8 +20,8 @@ fn settings(line: &[u8]) -> Settings {
     Settings {
         synchronised: octet(line, 1) == 1,
         leap: octet(line, 2),
-        precision: octets::signed8(octet(line, 3)),
-        identifier: octets::number32(line, 4),
+        precision: twos_complement::signed8(octet(line, 3)),
+        identifier: slices::number32(line, 4),
         reference: timestamp(line, 8),
     }
 }

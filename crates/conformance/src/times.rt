@@ -5,10 +5,10 @@ use crate::input::timestamp;
 use calendar::Date;
 use calendar::DateAnswer;
 use calendar::TimestampAnswer;
-use octets::number32;
-use octets::number64;
 use offset::OffsetAnswer;
 use precision::PrecisionAnswer;
+use slices::number32;
+use slices::number64;
 use timestamp::Timestamp;
 
 pub(crate) fn difference(line: &[u8]) -> Answer {
@@ -67,7 +67,9 @@ pub(crate) fn timestamp_of_date(line: &[u8]) -> Answer {
 pub(crate) fn precision(line: &[u8]) -> Answer {
     match precision::precision_of_tick(number64(line, 1)) {
         PrecisionAnswer::Refused(number) => Answer::number(number),
-        PrecisionAnswer::Precision(exponent) => Answer::number(0).with8(octets::bits8(exponent)),
+        PrecisionAnswer::Precision(exponent) => Answer::number(0).with8(twos_complement::bits8(
+            exponent,
+        )),
     }
 }
 
@@ -79,7 +81,7 @@ pub(crate) fn constants() -> Answer {
 }
 
 pub(crate) fn halve(line: &[u8]) -> Answer {
-    let halves = offset::halve(octets::signed64(number64(line, 1)));
+    let halves = offset::halve(twos_complement::signed64(number64(line, 1)));
     Answer::number(0)
         .with_signed64(halves.offset)
         .with8(halves.half)

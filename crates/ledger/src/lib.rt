@@ -42,7 +42,7 @@ pub struct Ticked {
 fn size(x: i64) -> u64
     ensures { λ r. ⌜ r ≡ natAbs x ⌝ }
 {
-    let bits = octets::bits64(x);
+    let bits = twos_complement::bits64(x);
     if bits <= 0x7FFF_FFFF_FFFF_FFFF {
         bits
     } else {

@@ -43,14 +43,14 @@ fn read_fields(p: &[u8]) -> Fields
         mode: p[0] % 8,
         stratum: p[1],
         poll: p[2],
-        precision: octets::signed8(p[3]),
-        root_delay: octets::signed32(octets::number32(p, 4)),
-        root_dispersion: octets::number32(p, 8),
-        identifier: octets::number32(p, 12),
-        reference: Timestamp(octets::number64(p, 16)),
-        originate: Timestamp(octets::number64(p, 24)),
-        receive: Timestamp(octets::number64(p, 32)),
-        transmit: Timestamp(octets::number64(p, 40)),
+        precision: twos_complement::signed8(p[3]),
+        root_delay: twos_complement::signed32(slices::number32(p, 4)),
+        root_dispersion: slices::number32(p, 8),
+        identifier: slices::number32(p, 12),
+        reference: Timestamp(slices::number64(p, 16)),
+        originate: Timestamp(slices::number64(p, 24)),
+        receive: Timestamp(slices::number64(p, 32)),
+        transmit: Timestamp(slices::number64(p, 40)),
     }
 }
 
@@ -76,10 +76,10 @@ fn put_timestamps(
     requires { ⌜ at + 32 ≤ length (now b) ⌝ }
     ensures { λ _. ⌜ now (b .exit) ≡ sets (now (b .entry)) at (octets 8 (t0 .0) ++ octets 8 (t1 .0) ++ octets 8 (t2 .0) ++ octets 8 (t3 .0)) ⌝ }
 {
-    octets::put64(b, at, t0.0);
-    octets::put64(b, at + 8, t1.0);
-    octets::put64(b, at + 16, t2.0);
-    octets::put64(b, at + 24, t3.0);
+    slices::put64(b, at, t0.0);
+    slices::put64(b, at + 8, t1.0);
+    slices::put64(b, at + 16, t2.0);
+    slices::put64(b, at + 24, t3.0);
 }
 
 // A field is too large to write.
@@ -106,7 +106,7 @@ fn first_word(fields: Fields) -> u32
         first_octet(fields.leap, fields.version, fields.mode),
         fields.stratum,
         fields.poll,
-        octets::bits8(fields.precision),
+        twos_complement::bits8(fields.precision),
     )
 }
 
@@ -116,10 +116,10 @@ fn put_fields(b: &mut [u8], fields: Fields)
     requires { ⌜ tooLarge fields ≡ false ⌝ }
     ensures { λ _. ⌜ now (b .exit) ≡ sets (now (b .entry)) 0 (octetsOf fields) ⌝ }
 {
-    octets::put32(b, 0, first_word(fields));
-    octets::put32(b, 4, octets::bits32(fields.root_delay));
-    octets::put32(b, 8, fields.root_dispersion);
-    octets::put32(b, 12, fields.identifier);
+    slices::put32(b, 0, first_word(fields));
+    slices::put32(b, 4, twos_complement::bits32(fields.root_delay));
+    slices::put32(b, 8, fields.root_dispersion);
+    slices::put32(b, 12, fields.identifier);
     put_timestamps(
         b,
         16,

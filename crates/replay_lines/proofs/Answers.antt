@@ -7,8 +7,8 @@ use lib.ListN.{length, take, drop, set, length-append, length-set}
 use lib.Seq.{sets, sets-eq, length-sets, take-all, take-at, length-take-le, take-suc-set}
 use Rattle.numbers.specs.Octets.{octets}
 use Rattle.numbers.proofs.Octets.{length-octets}
-use Rattle.octets.specs.Slices.{putNumber}
-use Rattle.octets.proofs.Slices.{put-room}
+use Rattle.slices.specs.Slices.{putNumber}
+use Rattle.slices.proofs.Slices.{put-room}
 
 -- a number of n octets put behind some octets
 module _ (n : ℕ) (p : List ℕ) (at : ℕ) (room : at + n ≤ length p) (x : ℕ) where

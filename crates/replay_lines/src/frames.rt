@@ -13,9 +13,9 @@ use client::ArrivalAnswer;
 use client::CallAnswer;
 use client::Client;
 use lines::Line;
-use octets::number64;
-use octets::put32;
-use octets::put64;
+use slices::number64;
+use slices::put32;
+use slices::put64;
 use timestamp::Timestamp;
 
 // The client's next record, and how many octets of the answer stand at the start of its buffer.
@@ -90,9 +90,9 @@ fn put_measured(answer: &mut [u8], offset: i64, half: u8, delay: i64) -> usize
     ensures { λ r. ⌜ r ≤ 49 ⌝ }
 {
     answer[0] = 0;
-    put64(answer, 1, octets::bits64(offset));
+    put64(answer, 1, twos_complement::bits64(offset));
     answer[9] = half;
-    put64(answer, 10, octets::bits64(delay));
+    put64(answer, 10, twos_complement::bits64(delay));
     18
 }
 

@@ -78,7 +78,7 @@ fn show_precision(tick: u64) {
         PrecisionAnswer::Refused(n) => refused(n),
         PrecisionAnswer::Precision(p) => {
             text(b"precision ");
-            hexadecimal(octets::bits8(p) as u64, 2);
+            hexadecimal(twos_complement::bits8(p) as u64, 2);
             text(b"\n");
         }
     }

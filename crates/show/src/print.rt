@@ -22,10 +22,10 @@ pub(crate) fn refused(n: u8) {
 // Offset and delay in two's complement, 16 digits.
 pub(crate) fn measured(offset: i64, half: u8, delay: i64) {
     text(b"offset ");
-    hexadecimal(octets::bits64(offset), 16);
+    hexadecimal(twos_complement::bits64(offset), 16);
     text(b" half ");
     decimal(half as u64);
     text(b" delay ");
-    hexadecimal(octets::bits64(delay), 16);
+    hexadecimal(twos_complement::bits64(delay), 16);
     text(b"\n");
 }

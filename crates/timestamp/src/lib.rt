@@ -69,6 +69,6 @@ impl Timestamp {
     pub fn minus(self, other: Timestamp) -> i64
         ensures { λ r. ⌜ r ≡ self ⊖ other ⌝ }
     {
-        octets::signed64(std::num::wrapping_sub_u64(self.0, other.0))
+        twos_complement::signed64(std::num::wrapping_sub_u64(self.0, other.0))
     }
 }

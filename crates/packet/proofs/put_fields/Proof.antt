@@ -6,7 +6,7 @@ use mir.ValLaws.{toZ-ofZ}
 use lib.ListN.{length-append}
 use denote.Ref.{now}
 use Rattle.numbers.proofs.Octets.{sets-append, length-octets}
-use Rattle.octets.proofs.Slices.{put-room}
+use Rattle.slices.proofs.Slices.{put-room}
 use Rattle.packet.specs.Packet.{octetsOf}
 use borrow.Author.Needs.{needs}
 use Rattle.packet.proofs.put_fields.Statement.{statement}

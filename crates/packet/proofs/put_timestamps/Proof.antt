@@ -5,7 +5,7 @@ use mathlib.Core.Path.{_∙_}
 use denote.Ref.{now}
 use lib.ListN.{length-append}
 use Rattle.numbers.proofs.Octets.{sets-append, length-octets}
-use Rattle.octets.proofs.Slices.{put-room}
+use Rattle.slices.proofs.Slices.{put-room}
 use borrow.Author.Needs.{needs}
 use Rattle.packet.proofs.put_timestamps.Statement.{statement}
 use Rattle.packet.proofs.put_timestamps.Tie as tie

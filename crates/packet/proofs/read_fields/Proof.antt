@@ -7,8 +7,8 @@ use lib.ListN.{length}
 use denote.Ref.{now}
 use Rattle.numbers.specs.Octets.{bigEndian, part}
 use Rattle.numbers.proofs.Machine.{told}
-use Rattle.octets.specs.Slices.{numberAt}
-use Rattle.octets.proofs.Slices.{number-room}
+use Rattle.slices.specs.Slices.{numberAt}
+use Rattle.slices.proofs.Slices.{number-room}
 use Rattle.packet.specs.Packet.{fieldsOf}
 use borrow.Author.Needs.{needs}
 use Rattle.packet.proofs.read_fields.Statement.{statement}

@@ -8,7 +8,7 @@ use lib.Seq.{take-all}
 use borrow.Author.Needs.{needs}
 use Rattle.timestamp.specs.Timestamp.{timestamp}
 use Rattle.client.specs.Arrival.{arrived}
-use Rattle.octets.proofs.Slices.{number-room}
+use Rattle.slices.proofs.Slices.{number-room}
 use Rattle.replay_lines.specs.Frames.{arrivalOctets}
 use Rattle.replay_lines.proofs.frames.arrival.Statement.{statement}
 use Rattle.replay_lines.proofs.frames.arrival.Tie as tie

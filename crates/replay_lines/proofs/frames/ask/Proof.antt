@@ -6,7 +6,7 @@ use lib.ListN.{take, drop}
 use borrow.Author.Needs.{needs}
 use Rattle.timestamp.specs.Timestamp.{timestamp}
 use Rattle.client.specs.Ask.{asked, askedBuffer}
-use Rattle.octets.proofs.Slices.{number-room}
+use Rattle.slices.proofs.Slices.{number-room}
 use Rattle.replay_lines.specs.Frames.{askOctets, clockIn, uptimeIn}
 use Rattle.replay_lines.proofs.Packet.{length-part, put-back, same}
 use Rattle.replay_lines.proofs.frames.ask.Statement.{statement}

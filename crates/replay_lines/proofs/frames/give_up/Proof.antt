@@ -4,7 +4,7 @@ use mathlib.Core.Path.{ap, _∙_}
 use denote.Ref.{now}
 use borrow.Author.Needs.{needs}
 use Rattle.client.specs.GiveUp.{gaveUp}
-use Rattle.octets.proofs.Slices.{number-room}
+use Rattle.slices.proofs.Slices.{number-room}
 use Rattle.replay_lines.specs.Frames.{giveUpOctets}
 use Rattle.replay_lines.proofs.frames.give_up.Statement.{statement}
 use Rattle.replay_lines.proofs.frames.give_up.Tie as tie

@@ -7,7 +7,7 @@ use denote.Ref.{now}
 use mir.Facts.{toZ-ofZ}
 use Rattle.numbers.specs.TwosComplement.{bits}
 use Rattle.numbers.specs.Octets.{octets}
-use Rattle.octets.specs.Slices.{putNumber}
+use Rattle.slices.specs.Slices.{putNumber}
 use borrow.Author.Needs.{needs}
 use Rattle.replay_lines.proofs.Answers.{measured, length-measured}
 use Rattle.replay_lines.proofs.frames.put_measured.Statement.{statement}

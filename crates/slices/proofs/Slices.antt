@@ -1,0 +1,26 @@
+-- Laws of numbers in a list of octets, over the count of octets. Assumes nothing.
+use Prim.Native.Nat.{ℕ, _+_, _/_, _%_, _^_, _≤_}
+use mathlib.Core.Path.{_≡_}
+use mathlib.Core.List.{List, reverse, reverse-append}
+use borrow.Author.Tests.{le-leb}
+use lib.ListN.{length, length-reverse}
+use lib.Seq.{sets}
+use Rattle.numbers.specs.Octets.{bigEndian, octets, part}
+use Rattle.numbers.proofs.Octets.{length-octets, octets-add, octets-mod, sets-append}
+use Rattle.slices.specs.Slices.{numberAt, putNumber}
+
+-- where there is room
+module _ (n : ℕ) (p : List ℕ) (at : ℕ) (room : at + n ≤ length p) where
+  pub number-room : numberAt n p at ≡ bigEndian (part at n p)
+  unfolding numberAt
+  number-room = rw (le-leb (at + n) (length p) room)
+
+  pub put-room : (x : ℕ) → putNumber n p at x ≡ sets p at (octets n x)
+  unfolding putNumber
+  put-room x = rw (le-leb (at + n) (length p) room)
+
+-- the m + n octets of y in reverse order are stored by the lower n and then the higher m
+pub sets-halves : (m n : ℕ) (l : List ℕ) (at y : ℕ)
+    → sets (sets l at (reverse (octets n (y % 256 ^ n)))) (at + n) (reverse (octets m (y / 256 ^ n))) ≡ sets l at (reverse (octets (m + n) y))
+sets-halves m n l at y =
+    rw (octets-mod, octets-add, reverse-append, sets-append, length-reverse, length-octets n y)
