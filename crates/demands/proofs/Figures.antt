@@ -9,7 +9,8 @@ use Rattle.calendar.specs.Gregorian.{leapDays, yearDays, monthDays, before, las
 use Rattle.calendar.specs.Dates.{daysTo, secondsTo, yearOn, dayOfYear, monthOn, dayOfMonth, dateAt}
 use Rattle.calendar.specs.Calendar.{start1900, start2036, secondsAt, dateOf}
 use Rattle.precision.specs.Precision.{least, precisionOf}
-use Rattle.client.specs.Record.{illegal, tooSoon}
+use Rattle.poll.specs.Poll.{tooSoon}
+use Rattle.client.specs.Record.{illegal}
 use Rattle.client.specs.Ask.{askTests, asked}
 use Rattle.client.specs.Arrival.{replyTests, arrived}
 use Rattle.demands.specs.Figures.{done, _and_, figures, Figures}

@@ -28,7 +28,8 @@ use Rattle.calendar.specs.Calendar.{dateIn, secondsAt, start2036}
 use Rattle.precision.specs.Precision.{least, precisionIn}
 use Rattle.precision.proofs.Least.{least-smallest}
 use Rattle.client.specs.declared.Client.{Client}
-use Rattle.client.specs.Record.{fresh, isWaiting, illegal, tooSoon}
+use Rattle.poll.specs.Poll.{tooSoon}
+use Rattle.client.specs.Record.{fresh, isWaiting, illegal}
 use Rattle.client.specs.Ask.{request, askTests, asked, askedBuffer}
 use Rattle.client.specs.Arrival.{arrived}
 use Rattle.client.specs.Arrival as arrivals

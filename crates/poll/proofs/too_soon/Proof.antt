@@ -1,12 +1,12 @@
--- `client::too_soon` meets its contract. Assumes nothing.
+-- `poll::too_soon` meets its contract. Assumes nothing.
 use Prim.Native.Nat.{_+_}
 use native.Mathlib.Omega.{arith}
 use mathlib.Core.Path.{sym}
 use borrow.Author.Tests.{lt-ltb}
-use Rattle.client.specs.Record.{tooSoon}
-use Rattle.client.proofs.Uptime.{later}
-use Rattle.client.proofs.too_soon.Statement.{statement}
-use Rattle.client.proofs.too_soon.Tie as tie
+use Rattle.poll.specs.Poll.{tooSoon}
+use Rattle.poll.proofs.Uptime.{later}
+use Rattle.poll.proofs.too_soon.Statement.{statement}
+use Rattle.poll.proofs.too_soon.Tie as tie
 
 returns : tie.Need-returns
 unfolding tooSoon

@@ -6,7 +6,7 @@ use native.Mathlib.Omega.{arith}
 use borrow.Author.Tests.{ltb-true, ltb-false, lt-ltb, le-ltb}
 use lib.Dec.{ltb}
 use lib.Pow.{pow-mono}
-use Rattle.client.specs.Record.{tooSoon}
+use Rattle.poll.specs.Poll.{tooSoon}
 
 pub later : (since seconds uptime : ℕ) → since ≤ uptime → ltb (uptime - since) seconds ≡ tooSoon since seconds uptime
 unfolding tooSoon
