@@ -13,7 +13,8 @@ use mir.Facts.{and-yes}
 use Rattle.numbers.proofs.Whole.{whole, sum, minus}
 use Rattle.numbers.proofs.Machine.{is-false}
 use Rattle.refusals.specs.Numbers.{record-not-legal, entry-too-large, debt-too-large, limit-out-of-range}
-use Rattle.refusals.specs.Tests.{Tests, _if_else_, _when_else_, otherwise, Given, refused, answered, given, answerOf, between}
+use Rattle.refusals.specs.Tests.{answerOf, between}
+use Rattle.refusals.proofs.Tests.{by-rows}
 use Rattle.ledger.specs.declared.Ledger.{Ledger}
 use Rattle.ledger.specs.Ledger.{opened, halfUnits, tooMuch, illegal, entryTests, refusedEntry, payment, tickTests, refusedTick, numberInEntry, numberInTick}
 use Rattle.ledger.specs.Balance.{Call, entry, tick, next, addedBy, added, paidIn, paid, after, allAdded, allPaid, AllLegal, ticks, ceiling, Balance}
@@ -21,20 +22,6 @@ use Rattle.ledger.specs.Balance as calls
 use Rattle.ledger.proofs.Payments.{leaves, pays}
 
 -- ---- one call
-
--- what a table gives has the property P where what each row gives has it, wherever that row is the first whose test holds
-module _ {A : Type 0} (P : Given A → Type 0) where
-  abbrev Rows : Tests A → Type 0
-  Rows (n if b else rest) = (T b → P (refused n)) × (T (not b) → Rows rest)
-  Rows (a when b else rest) = (T b → P (answered a)) × (T (not b) → Rows rest)
-  Rows (otherwise a) = P (answered a)
-
-  by-rows : (t : Tests A) → Rows t → P (given t)
-  by-rows (n if true else rest) r = r .0 tt
-  by-rows (n if false else rest) r = by-rows rest (r .1 tt)
-  by-rows (a when true else rest) r = r .0 tt
-  by-rows (a when false else rest) r = by-rows rest (r .1 tt)
-  by-rows (otherwise a) r = r
 
 -- of a call that pays and adds so much, leaves this ledger and gives this number: the balance holds, the ledger left is legal and the number is not 29
 record Kept (l : Ledger) (pays adds : ℤ) (left : Ledger) (number : ℕ) : Type 0 where

@@ -159,6 +159,20 @@ module _ {A : Type 0} where
   pub first-line : (t : Tests A) {r : ℕ} → From 0 t r → r ≡ number t
   first-line t f = f .is
 
+-- what a table gives has the property P where what each row gives has it, wherever that row is the first whose test holds
+module _ {A : Type 0} (P : Given A → Type 0) where
+  abbrev pub Rows : Tests A → Type 0
+  Rows (n if b else rest) = (T b → P (refused n)) × (T (not b) → Rows rest)
+  Rows (a when b else rest) = (T b → P (answered a)) × (T (not b) → Rows rest)
+  Rows (otherwise a) = P (answered a)
+
+  pub by-rows : (t : Tests A) → Rows t → P (given t)
+  by-rows (n if true else rest) r = r .0 tt
+  by-rows (n if false else rest) r = by-rows rest (r .1 tt)
+  by-rows (a when true else rest) r = r .0 tt
+  by-rows (a when false else rest) r = by-rows rest (r .1 tt)
+  by-rows (otherwise a) r = r
+
 -- ---- tables put together
 
 module _ {A B : Type 0} where
