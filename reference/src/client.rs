@@ -127,6 +127,29 @@ pub fn ask(client: &Client, buffer: &mut [u8], version: u8, clock: u64, uptime: 
     (0, next)
 }
 
+/// The first test of a reply's own fields that refuses it.
+fn unusable(fields: &packet::Fields, t4: u64) -> Option<u8> {
+    if t4 == 0 {
+        return Some(3);
+    }
+    if fields.leap == 3 {
+        return Some(12);
+    }
+    if fields.stratum > 15 {
+        return Some(13);
+    }
+    if fields.receive == 0 || fields.transmit == 0 {
+        return Some(14);
+    }
+    if fields.root_delay < 0 || fields.root_delay >= 65536 {
+        return Some(33);
+    }
+    if fields.root_dispersion >= 65536 {
+        return Some(34);
+    }
+    None
+}
+
 pub fn arrival(client: &Client, octets: &[u8], t4: u64) -> (Arrival, Client) {
     let refused = |number: u8| (Arrival::Refused(number), *client);
     if !legal(client) {
@@ -154,23 +177,8 @@ pub fn arrival(client: &Client, octets: &[u8], t4: u64) -> (Arrival, Client) {
         let next = without_request(client, Phase::Stopped, client.exponent);
         return (Arrival::Kiss { code, row }, next);
     }
-    if t4 == 0 {
-        return refused(3);
-    }
-    if fields.leap == 3 {
-        return refused(12);
-    }
-    if fields.stratum > 15 {
-        return refused(13);
-    }
-    if fields.receive == 0 || fields.transmit == 0 {
-        return refused(14);
-    }
-    if fields.root_delay < 0 || fields.root_delay >= 65536 {
-        return refused(33);
-    }
-    if fields.root_dispersion >= 65536 {
-        return refused(34);
+    if let Some(number) = unusable(&fields, t4) {
+        return refused(number);
     }
     match time::measure(client.transmit, fields.receive, fields.transmit, t4) {
         Err(number) => refused(number),

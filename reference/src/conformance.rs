@@ -146,128 +146,123 @@ pub fn answer(line: &[u8], out: &mut Vec<u8>) {
     }
 }
 
-fn try_answer(line: &[u8], out: &mut Vec<u8>) -> Option<()> {
-    let operation = *line.first()?;
-    let rest = &line[1..];
-    let (shortest, longest) = lengths(operation)?;
-    if rest.len() < shortest || rest.len() > longest {
+/// A number of eight octets.
+fn put8(value: u64, out: &mut Vec<u8>) {
+    out.extend_from_slice(&value.to_be_bytes());
+}
+
+/// A refusal's number, or 00 and what `put` makes of the value.
+fn put_result<T>(result: Result<T, u8>, out: &mut Vec<u8>, put: impl FnOnce(T, &mut Vec<u8>)) {
+    match result {
+        Err(number) => out.push(number),
+        Ok(value) => {
+            out.push(0);
+            put(value, out);
+        }
+    }
+}
+
+fn put_measured(m: time::Measured, out: &mut Vec<u8>) {
+    put8(m.offset as u64, out);
+    out.push(m.half);
+    put8(m.delay as u64, out);
+}
+
+/// Lends a filled buffer of n octets, and shows the number and the buffer.
+/// None where n is too large.
+fn lend(n: u8, out: &mut Vec<u8>, call: impl FnOnce(&mut [u8]) -> u8) -> Option<()> {
+    let mut space = [0u8; MOST];
+    let buffer = space.get_mut(..n as usize)?;
+    fill(buffer);
+    out.push(call(buffer));
+    out.extend_from_slice(buffer);
+    Some(())
+}
+
+fn ask(rest: &[u8], out: &mut Vec<u8>) -> Option<()> {
+    let record = get_record(rest)?;
+    let mut space = [0u8; MOST];
+    let buffer = space.get_mut(..rest[20] as usize)?;
+    fill(buffer);
+    let (clock, uptime) = (get8(&rest[22..]), get8(&rest[30..]));
+    let (number, next) = client::ask(&record, buffer, rest[21], clock, uptime);
+    out.push(number);
+    put_record(&next, out);
+    out.extend_from_slice(buffer);
+    Some(())
+}
+
+fn arrival(rest: &[u8], out: &mut Vec<u8>) -> Option<()> {
+    let record = get_record(rest)?;
+    let (result, next) = client::arrival(&record, &rest[28..], get8(&rest[20..]));
+    let (kind, number, m, code, row) = match result {
+        Arrival::Refused(number) => (0, number, time::Measured::default(), [0; 4], 0),
+        Arrival::Accepted(m) => (1, 0, m, [0; 4], 0),
+        Arrival::Kiss { code, row } => (2, 0, time::Measured::default(), code, row),
+    };
+    out.push(kind);
+    out.push(number);
+    put_measured(m, out);
+    out.extend_from_slice(&code);
+    out.push(row);
+    put_record(&next, out);
+    Some(())
+}
+
+fn give_up(rest: &[u8], out: &mut Vec<u8>) -> Option<()> {
+    let record = get_record(rest)?;
+    let (number, next) = client::give_up(&record, get8(&rest[20..]));
+    out.push(number);
+    put_record(&next, out);
+    Some(())
+}
+
+fn reply(rest: &[u8], out: &mut Vec<u8>) -> Option<()> {
+    if rest[0] > 1 {
         return None;
     }
-    let mut space = [0u8; MOST];
+    let settings = Settings {
+        synchronised: rest[0] == 1,
+        leap: rest[1],
+        precision: rest[2] as i8,
+        identifier: [rest[3], rest[4], rest[5], rest[6]],
+        reference: get8(&rest[7..]),
+    };
+    let (t2, t3) = (get8(&rest[15..]), get8(&rest[23..]));
+    lend(rest[31], out, |buffer| server::reply(&settings, t2, t3, &rest[32..], buffer))
+}
+
+fn entry(rest: &[u8], out: &mut Vec<u8>) {
+    let (number, next) = ledger::entry(get8(rest) as i64, get8(&rest[8..]) as i64, rest[16]);
+    out.push(number);
+    put8(next as u64, out);
+}
+
+fn tick(rest: &[u8], out: &mut Vec<u8>) {
+    let (number, paid, next) = ledger::tick(get8(rest) as i64, get8(&rest[8..]));
+    out.push(number);
+    put8(paid as u64, out);
+    put8(next as u64, out);
+}
+
+/// The operations that carry no record and lend no buffer.
+fn plain(operation: u8, rest: &[u8], out: &mut Vec<u8>) -> Option<()> {
+    let number = |i: usize| get8(&rest[8 * i..]);
     match operation {
         0x01 => {
-            let d = time::difference(get8(rest), get8(&rest[8..]));
             out.push(0);
-            out.extend_from_slice(&(d as i64).to_be_bytes());
+            put8(time::difference(number(0), number(1)) as u64, out);
         }
         0x02 => {
-            let t = |i: usize| get8(&rest[8 * i..]);
-            match time::measure(t(0), t(1), t(2), t(3)) {
-                Err(number) => out.push(number),
-                Ok(m) => {
-                    out.push(0);
-                    out.extend_from_slice(&m.offset.to_be_bytes());
-                    out.push(m.half);
-                    out.extend_from_slice(&m.delay.to_be_bytes());
-                }
-            }
+            let measured = time::measure(number(0), number(1), number(2), number(3));
+            put_result(measured, out, put_measured);
         }
-        0x03 => match packet::read(rest) {
-            Err(number) => out.push(number),
-            Ok(fields) => {
-                out.push(0);
-                put_fields(&fields, out);
-            }
-        },
-        0x04 => {
-            let buffer = space.get_mut(..rest[0] as usize)?;
-            fill(buffer);
-            out.push(packet::write(&get_fields(&rest[1..]), buffer));
-            out.extend_from_slice(buffer);
-        }
-        0x05 => match calendar::date_of(get8(rest)) {
-            Err(number) => out.push(number),
-            Ok(date) => {
-                out.push(0);
-                put_date(&date, out);
-            }
-        },
-        0x06 => match calendar::timestamp_of(&get_date(rest)) {
-            Err(number) => out.push(number),
-            Ok(timestamp) => {
-                out.push(0);
-                out.extend_from_slice(&timestamp.to_be_bytes());
-            }
-        },
-        0x07 => match precision::precision(get8(rest)) {
-            Err(number) => out.push(number),
-            Ok(exponent) => {
-                out.push(0);
-                out.push(exponent as u8);
-            }
-        },
-        0x08 => {
-            let record = get_record(rest)?;
-            let buffer = space.get_mut(..rest[20] as usize)?;
-            fill(buffer);
-            let (number, next) =
-                client::ask(&record, buffer, rest[21], get8(&rest[22..]), get8(&rest[30..]));
-            out.push(number);
-            put_record(&next, out);
-            out.extend_from_slice(buffer);
-        }
-        0x09 => {
-            let record = get_record(rest)?;
-            let (result, next) = client::arrival(&record, &rest[28..], get8(&rest[20..]));
-            let (kind, number, m, code, row) = match result {
-                Arrival::Refused(number) => (0, number, time::Measured::default(), [0; 4], 0),
-                Arrival::Accepted(m) => (1, 0, m, [0; 4], 0),
-                Arrival::Kiss { code, row } => (2, 0, time::Measured::default(), code, row),
-            };
-            out.push(kind);
-            out.push(number);
-            out.extend_from_slice(&m.offset.to_be_bytes());
-            out.push(m.half);
-            out.extend_from_slice(&m.delay.to_be_bytes());
-            out.extend_from_slice(&code);
-            out.push(row);
-            put_record(&next, out);
-        }
-        0x0A => {
-            let record = get_record(rest)?;
-            let (number, next) = client::give_up(&record, get8(&rest[20..]));
-            out.push(number);
-            put_record(&next, out);
-        }
-        0x0B => {
-            if rest[0] > 1 {
-                return None;
-            }
-            let settings = Settings {
-                synchronised: rest[0] == 1,
-                leap: rest[1],
-                precision: rest[2] as i8,
-                identifier: [rest[3], rest[4], rest[5], rest[6]],
-                reference: get8(&rest[7..]),
-            };
-            let buffer = space.get_mut(..rest[31] as usize)?;
-            fill(buffer);
-            let (t2, t3) = (get8(&rest[15..]), get8(&rest[23..]));
-            out.push(server::reply(&settings, t2, t3, &rest[32..], buffer));
-            out.extend_from_slice(buffer);
-        }
-        0x0C => {
-            let (debt, offset) = (get8(rest) as i64, get8(&rest[8..]) as i64);
-            let (number, next) = ledger::entry(debt, offset, rest[16]);
-            out.push(number);
-            out.extend_from_slice(&next.to_be_bytes());
-        }
-        0x0D => {
-            let (number, paid, next) = ledger::tick(get8(rest) as i64, get8(&rest[8..]));
-            out.push(number);
-            out.extend_from_slice(&paid.to_be_bytes());
-            out.extend_from_slice(&next.to_be_bytes());
-        }
+        0x03 => put_result(packet::read(rest), out, |fields, out| put_fields(&fields, out)),
+        0x05 => put_result(calendar::date_of(number(0)), out, |date, out| put_date(&date, out)),
+        0x06 => put_result(calendar::timestamp_of(&get_date(rest)), out, put8),
+        0x07 => put_result(precision::precision(number(0)), out, |p, out| out.push(p as u8)),
+        0x0C => entry(rest, out),
+        0x0D => tick(rest, out),
         0xF0 => {
             out.push(0);
             put_record(&FRESH, out);
@@ -275,18 +270,35 @@ fn try_answer(line: &[u8], out: &mut Vec<u8>) -> Option<()> {
         0xF1 => {
             out.push(0);
             for constant in [time::ZERO, time::SECOND, time::LIMIT] {
-                out.extend_from_slice(&constant.to_be_bytes());
+                put8(constant, out);
             }
         }
         0xF2 => {
-            let (offset, half) = time::halve(get8(rest) as i64 as i128);
+            let (offset, half) = time::halve(number(0) as i64 as i128);
             out.push(0);
-            out.extend_from_slice(&(offset as i64).to_be_bytes());
+            put8(offset as u64, out);
             out.push(half);
         }
         _ => return None,
     }
     Some(())
+}
+
+fn try_answer(line: &[u8], out: &mut Vec<u8>) -> Option<()> {
+    let operation = *line.first()?;
+    let rest = &line[1..];
+    let (shortest, longest) = lengths(operation)?;
+    if rest.len() < shortest || rest.len() > longest {
+        return None;
+    }
+    match operation {
+        0x04 => lend(rest[0], out, |buffer| packet::write(&get_fields(&rest[1..]), buffer)),
+        0x08 => ask(rest, out),
+        0x09 => arrival(rest, out),
+        0x0A => give_up(rest, out),
+        0x0B => reply(rest, out),
+        _ => plain(operation, rest, out),
+    }
 }
 
 /// Answers a whole input.

@@ -2,7 +2,7 @@
 
 use crate::calendar::{month_days, timestamp_of as timestamp_of_date, Date};
 use crate::client::{Client, Phase, FRESH};
-use crate::conformance::{put_date, put_fields, put_record, MOST};
+use crate::conformance::{lengths, put_date, put_fields, put_record, MOST};
 use crate::generate_ledger::{self, Runs};
 use crate::lines::write_lines;
 use crate::material::*;
@@ -490,92 +490,104 @@ fn well_formed(r: &mut Random, line: &mut Vec<u8>) {
     }
 }
 
+/// An operation that is not listed.
+fn unlisted(r: &mut Random) -> u8 {
+    loop {
+        let operation = r.octet();
+        if lengths(operation).is_none() {
+            return operation;
+        }
+    }
+}
+
+/// Cuts a line of an operation that has one length.
+fn too_short(r: &mut Random, line: &mut Vec<u8>) {
+    while matches!(line[0], 0x03 | 0x09 | 0x0B | 0xF0 | 0xF1) {
+        line.clear();
+        well_formed(r, line);
+    }
+    let keep = match r.below(2) {
+        0 => line.len() - 1,
+        _ => 1 + r.below(line.len() as u64 - 1) as usize,
+    };
+    line.truncate(keep);
+}
+
+fn too_long(r: &mut Random, line: &mut Vec<u8>) {
+    let longest = 1 + lengths(line[0]).unwrap().1;
+    let more = match r.below(8) {
+        0 => r.below(2000) as usize,
+        1 => r.below(30) as usize,
+        _ => 0,
+    };
+    let add = longest + 1 + more - line.len();
+    anything(r, add, line);
+}
+
+/// A line too short for the fixed part before a packet.
+fn before_packet(r: &mut Random, line: &mut Vec<u8>) {
+    line.clear();
+    match r.below(2) {
+        0 => arrival(r, line),
+        _ => reply(r, line),
+    }
+    let shortest = lengths(line[0]).unwrap().0;
+    let keep = if r.one_in(2) { shortest } else { 1 + r.below(shortest as u64) as usize };
+    line.truncate(keep);
+}
+
+/// A flag or a phase that there is not.
+fn wrong_flag(r: &mut Random, line: &mut Vec<u8>) {
+    line.clear();
+    match r.below(4) {
+        0 => ask(r, line),
+        1 => arrival(r, line),
+        2 => give_up(r, line),
+        _ => reply(r, line),
+    }
+    let at = match line[0] {
+        0x0B => 1,
+        _ => r.pick(&[1, 11]),
+    };
+    let least = if line[0] != 0x0B && at == 1 { 3 } else { 2 };
+    line[at] = match r.below(3) {
+        0 | 1 => least,
+        _ => least + r.below(256 - least as u64) as u8,
+    };
+}
+
+/// A buffer that is too long.
+fn long_buffer(r: &mut Random, line: &mut Vec<u8>) {
+    line.clear();
+    let at = match r.below(3) {
+        0 => {
+            write(r, line);
+            1
+        }
+        1 => {
+            ask(r, line);
+            21
+        }
+        _ => {
+            reply(r, line);
+            32
+        }
+    };
+    line[at] = match r.below(3) {
+        0 | 1 => 81,
+        _ => 81 + r.below(175) as u8,
+    };
+}
+
 /// Makes a well-formed line's octets malformed, keeping them octets.
 fn spoil_octets(r: &mut Random, line: &mut Vec<u8>) {
     match r.below(8) {
-        0 => {
-            line[0] = loop {
-                let operation = r.octet();
-                if crate::conformance::lengths(operation).is_none() {
-                    break operation;
-                }
-            }
-        }
-        1 => {
-            // One octet short or more of an operation with one length.
-            while matches!(line[0], 0x03 | 0x09 | 0x0B | 0xF0 | 0xF1) {
-                line.clear();
-                well_formed(r, line);
-            }
-            let keep = match r.below(2) {
-                0 => line.len() - 1,
-                _ => 1 + r.below(line.len() as u64 - 1) as usize,
-            };
-            line.truncate(keep);
-        }
-        2 => {
-            // Too long.
-            let longest = 1 + crate::conformance::lengths(line[0]).unwrap().1;
-            let more = match r.below(8) {
-                0 => r.below(2000) as usize,
-                1 => r.below(30) as usize,
-                _ => 0,
-            };
-            let add = longest + 1 + more - line.len();
-            anything(r, add, line);
-        }
-        3 => {
-            // Too short for the fixed part before a packet.
-            line.clear();
-            match r.below(2) {
-                0 => arrival(r, line),
-                _ => reply(r, line),
-            }
-            let shortest = crate::conformance::lengths(line[0]).unwrap().0;
-            let keep = if r.one_in(2) { shortest } else { 1 + r.below(shortest as u64) as usize };
-            line.truncate(keep);
-        }
-        4 | 5 => {
-            // A flag or a phase.
-            line.clear();
-            match r.below(4) {
-                0 => ask(r, line),
-                1 => arrival(r, line),
-                2 => give_up(r, line),
-                _ => reply(r, line),
-            }
-            let at = match line[0] {
-                0x0B => 1,
-                _ => r.pick(&[1, 11]),
-            };
-            let least = if line[0] != 0x0B && at == 1 { 3 } else { 2 };
-            line[at] = match r.below(3) {
-                0 | 1 => least,
-                _ => least + r.below(256 - least as u64) as u8,
-            };
-        }
-        _ => {
-            // A buffer that is too long.
-            line.clear();
-            let at = match r.below(3) {
-                0 => {
-                    write(r, line);
-                    1
-                }
-                1 => {
-                    ask(r, line);
-                    21
-                }
-                _ => {
-                    reply(r, line);
-                    32
-                }
-            };
-            line[at] = match r.below(3) {
-                0 | 1 => 81,
-                _ => 81 + r.below(175) as u8,
-            };
-        }
+        0 => line[0] = unlisted(r),
+        1 => too_short(r, line),
+        2 => too_long(r, line),
+        3 => before_packet(r, line),
+        4 | 5 => wrong_flag(r, line),
+        _ => long_buffer(r, line),
     }
 }
 

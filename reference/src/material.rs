@@ -170,51 +170,110 @@ pub fn good_reply(r: &mut Random, t1: u64, version: u8) -> Reply {
     Reply { fields, t4: t1.wrapping_add(e) }
 }
 
+/// Makes a reply a kiss, which may carry anything that its later tests refuse.
+fn make_kiss(r: &mut Random, f: &mut Fields) {
+    f.stratum = 0;
+    f.identifier = kiss_code(r);
+    if r.one_in(2) {
+        f.leap = 3;
+    }
+    if r.one_in(4) {
+        f.receive = 0;
+        f.transmit = 0;
+    }
+    if r.one_in(4) {
+        f.root_delay = large_root(r) as i32;
+    }
+    if r.one_in(4) {
+        f.root_dispersion = large_root(r);
+    }
+}
+
+/// An originate timestamp that is not T1.
+fn other_originate(r: &mut Random, t1: u64, f: &Fields) -> u64 {
+    let other = match r.below(8) {
+        0 => t1.wrapping_add(1),
+        1 => t1.wrapping_sub(1),
+        2 => 0,
+        3 => u64::MAX,
+        4 => f.receive,
+        5 => timestamp(r),
+        6 => t1.swap_bytes(),
+        _ => t1 ^ (1 << r.below(64)),
+    };
+    if other == t1 { !t1 } else { other }
+}
+
+/// Units that a difference is negative by.
+fn backward(r: &mut Random) -> u64 {
+    match r.below(5) {
+        0 | 1 => 1,
+        2 => 1 + r.below(SECOND),
+        3 => 1 << 63,
+        _ => 1 + r.below(1 << 63),
+    }
+}
+
+/// From `least` to 2^63 - 1 units, the ends often.
+fn forward(r: &mut Random, least: u64) -> u64 {
+    match r.below(5) {
+        0 | 1 => least,
+        2 => least + r.below(SECOND),
+        3 => (1 << 63) - 1,
+        _ => least + r.below((1 << 63) - least),
+    }
+}
+
+/// A first difference out of range, or one that puts the second out of range
+/// where the delay is d.
+fn out_of_range(r: &mut Random, d: i64) -> i64 {
+    match r.below(8) {
+        0 | 1 => QUARTER,
+        2 => -QUARTER - 1,
+        // Only the second difference is too far.
+        3 | 4 => (-QUARTER - 1).wrapping_add(d),
+        5 => QUARTER + r.below(LIMIT) as i64,
+        6 => i64::MIN,
+        _ => (QUARTER as u64).wrapping_add(r.below(1 << 63)) as i64,
+    }
+}
+
+/// Spoils the four timestamps.
+fn spoil_times(r: &mut Random, number: u8, t1: u64, reply: &mut Reply) {
+    let f = &mut reply.fields;
+    match number {
+        15 => reply.t4 = t1.wrapping_sub(backward(r)),
+        16 => reply.t4 = t1.wrapping_add(forward(r, LIMIT + 1)),
+        17 => f.transmit = f.receive.wrapping_sub(backward(r)),
+        18 => {
+            let e = reply.t4.wrapping_sub(t1) & (LIMIT * 2 - 1);
+            f.transmit = f.receive.wrapping_add(forward(r, e + 1));
+        }
+        19 => {
+            let h = f.transmit.wrapping_sub(f.receive);
+            let d = reply.t4.wrapping_sub(t1).wrapping_sub(h) as i64;
+            f.receive = t1.wrapping_add(out_of_range(r, d) as u64);
+            f.transmit = f.receive.wrapping_add(h);
+        }
+        _ => {}
+    }
+}
+
 /// Spoils a reply so that it is refused by the number, if nothing else
 /// refuses it first. Number 0 makes it a kiss.
 pub fn spoil(r: &mut Random, number: u8, t1: u64, reply: &mut Reply) {
     let f = &mut reply.fields;
     match number {
-        0 => {
-            f.stratum = 0;
-            f.identifier = kiss_code(r);
-            if r.one_in(2) {
-                f.leap = 3;
-            }
-            if r.one_in(4) {
-                f.receive = 0;
-                f.transmit = 0;
-            }
-            // A kiss may carry what 33 and 34 refuse.
-            if r.one_in(4) {
-                f.root_delay = large_root(r) as i32;
-            }
-            if r.one_in(4) {
-                f.root_dispersion = large_root(r);
-            }
-        }
+        0 => make_kiss(r, f),
         3 => reply.t4 = 0,
-        9 => {
-            let other = match r.below(8) {
-                0 => t1.wrapping_add(1),
-                1 => t1.wrapping_sub(1),
-                2 => 0,
-                3 => u64::MAX,
-                4 => f.receive,
-                5 => timestamp(r),
-                6 => t1.swap_bytes(),
-                _ => t1 ^ (1 << r.below(64)),
-            };
-            f.originate = if other == t1 { !t1 } else { other };
-        }
+        9 => f.originate = other_originate(r, t1, f),
         10 => f.mode = (5 + r.below(7) as u8) % 8,
         11 => f.version = (f.version % 8 + 1 + r.below(7) as u8) % 8,
         12 => f.leap = 3,
         13 => {
-            f.stratum = if r.one_in(2) {
-                r.pick(&[16, 17, 128, 255])
-            } else {
-                16 + r.below(240) as u8
+            f.stratum = match r.below(2) {
+                0 => r.pick(&[16, 17, 128, 255]),
+                _ => 16 + r.below(240) as u8,
             }
         }
         14 => {
@@ -226,61 +285,9 @@ pub fn spoil(r: &mut Random, number: u8, t1: u64, reply: &mut Reply) {
                 f.transmit = 0;
             }
         }
-        15 => {
-            let back = match r.below(5) {
-                0 | 1 => 1,
-                2 => 1 + r.below(SECOND),
-                3 => 1 << 63,
-                _ => 1 + r.below(1 << 63),
-            };
-            reply.t4 = t1.wrapping_sub(back);
-        }
-        16 => {
-            let over = match r.below(5) {
-                0 | 1 => LIMIT + 1,
-                2 => LIMIT + 1 + r.below(SECOND),
-                3 => (1 << 63) - 1,
-                _ => LIMIT + 1 + r.below((1 << 63) - LIMIT - 1),
-            };
-            reply.t4 = t1.wrapping_add(over);
-        }
-        17 => {
-            let back = match r.below(5) {
-                0 | 1 => 1,
-                2 => 1 + r.below(SECOND),
-                3 => 1 << 63,
-                _ => 1 + r.below(1 << 63),
-            };
-            f.transmit = f.receive.wrapping_sub(back);
-        }
-        18 => {
-            let e = reply.t4.wrapping_sub(t1) & (LIMIT * 2 - 1);
-            let more = match r.below(5) {
-                0 | 1 => 1,
-                2 => 1 + r.below(SECOND),
-                3 => (1 << 63) - 1 - e,
-                _ => 1 + r.below((1 << 63) - 1 - e),
-            };
-            f.transmit = f.receive.wrapping_add(e + more);
-        }
-        19 => {
-            let h = f.transmit.wrapping_sub(f.receive);
-            let d = reply.t4.wrapping_sub(t1).wrapping_sub(h) as i64;
-            let p = match r.below(8) {
-                0 | 1 => QUARTER,
-                2 => -QUARTER - 1,
-                // Only the second difference is too far.
-                3 | 4 => (-QUARTER - 1).wrapping_add(d),
-                5 => QUARTER + r.below(LIMIT) as i64,
-                6 => i64::MIN,
-                _ => (QUARTER as u64).wrapping_add(r.below(1 << 63)) as i64,
-            };
-            f.receive = t1.wrapping_add(p as u64);
-            f.transmit = f.receive.wrapping_add(h);
-        }
         33 => f.root_delay = large_root(r) as i32,
         34 => f.root_dispersion = large_root(r),
-        _ => {}
+        _ => spoil_times(r, number, t1, reply),
     }
 }
 

@@ -63,57 +63,12 @@ impl Sides {
         let rest = &line[1..];
         let mut m = Marker { rows: &mut self.rows[line[0] as usize], at: 0 };
         match line[0] {
-            0x02 => {
-                let t = |i: usize| get8(&rest[8 * i..]);
-                exchange(&mut m, [t(0), t(1), t(2), t(3)], number, 0);
-                m.see("zero-taken", number == 0 && (0..4).any(|i| t(i) == 0));
-            }
-            0x03 => {
-                let known = [47, 49, 67, 69];
-                for n in 0..=80 {
-                    m.see_at("length-", n, rest.len() == n as usize);
-                }
-                for n in known {
-                    m.see_at("refused-length-", n, number == 7 && rest.len() == n as usize);
-                }
-            }
-            0x04 => {
-                for n in 0..=80 {
-                    m.see_at("buffer-", n, rest[0] == n as u8);
-                }
-                m.see("n=47-refused", number == 1 && rest[0] == 47);
-                m.see("n=48-written", number == 0 && rest[0] == 48);
-                m.see("li=3-written", number == 0 && rest[1] == 3);
-                m.see("li=4-refused", number == 27 && rest[1] == 4);
-                m.see("vn=7-written", number == 0 && rest[2] == 7);
-                m.see("vn=8-refused", number == 27 && rest[2] == 8);
-                m.see("mode=7-written", number == 0 && rest[3] == 7);
-                m.see("mode=8-refused", number == 27 && rest[3] == 8);
-                m.see("1-before-27", number == 1 && rest[1] > 3);
-            }
-            0x05 => {
-                let t = get8(rest);
-                m.see("zero", t == 0);
-                m.see("one", t == 1);
-                m.see("ones", t == u64::MAX);
-                m.see("first", t == 1 << 63);
-                m.see("last", t == (1 << 63) - 1);
-                let month = answer.get(5).copied().unwrap_or(0);
-                let day = answer.get(6).copied().unwrap_or(0);
-                m.see("leap-day", month == 2 && day == 29);
-                m.see("year-end", month == 12 && day == 31);
-            }
+            0x02 => measured(&mut m, rest, number),
+            0x03 => fields_read(&mut m, rest.len(), number),
+            0x04 => fields_written(&mut m, rest, number),
+            0x05 => date_given(&mut m, get8(rest), answer),
             0x06 => date(&mut m, &get_date(rest), number),
-            0x07 => {
-                let t = get8(rest);
-                m.see("zero", t == 0 && number == 28);
-                m.see("over", t == (1 << 32) + 1 && number == 28);
-                for k in 0..=32 {
-                    m.see_at("power-", k, t == 1 << k && number == 0);
-                    m.see_at("power-less-1-", k, k == 0 || t == (1 << k) - 1);
-                    m.see_at("power-and-1-", k, t == (1 << k) + 1);
-                }
-            }
+            0x07 => precision(&mut m, get8(rest), number),
             0x08 => ask(&mut m, rest, number),
             0x09 => arrival(&mut m, rest, answer, number),
             0x0A => give_up(&mut m, rest, answer, number),
@@ -127,14 +82,67 @@ impl Sides {
                 }
                 self.owed = if run || get8(rest) == 0 { handed_back(answer) } else { None };
             }
-            0xF2 => {
-                let s = get8(rest) as i64;
-                for edge in [-2, -1, 0, 1, 2, i64::MIN, i64::MIN + 1, i64::MAX, i64::MAX - 1] {
-                    m.see_at("sum=", edge, s == edge);
-                }
-            }
+            0xF2 => halved(&mut m, get8(rest) as i64),
             _ => {}
         }
+    }
+}
+
+fn measured(m: &mut Marker, rest: &[u8], number: u8) {
+    let t = |i: usize| get8(&rest[8 * i..]);
+    exchange(m, [t(0), t(1), t(2), t(3)], number, 0);
+    m.see("zero-taken", number == 0 && (0..4).any(|i| t(i) == 0));
+}
+
+fn fields_read(m: &mut Marker, length: usize, number: u8) {
+    for n in 0..=80 {
+        m.see_at("length-", n, length == n as usize);
+    }
+    for n in [47, 49, 67, 69] {
+        m.see_at("refused-length-", n, number == 7 && length == n as usize);
+    }
+}
+
+fn fields_written(m: &mut Marker, rest: &[u8], number: u8) {
+    for n in 0..=80 {
+        m.see_at("buffer-", n, rest[0] == n as u8);
+    }
+    m.see("n=47-refused", number == 1 && rest[0] == 47);
+    m.see("n=48-written", number == 0 && rest[0] == 48);
+    m.see("li=3-written", number == 0 && rest[1] == 3);
+    m.see("li=4-refused", number == 27 && rest[1] == 4);
+    m.see("vn=7-written", number == 0 && rest[2] == 7);
+    m.see("vn=8-refused", number == 27 && rest[2] == 8);
+    m.see("mode=7-written", number == 0 && rest[3] == 7);
+    m.see("mode=8-refused", number == 27 && rest[3] == 8);
+    m.see("1-before-27", number == 1 && rest[1] > 3);
+}
+
+fn date_given(m: &mut Marker, t: u64, answer: &[u8]) {
+    m.see("zero", t == 0);
+    m.see("one", t == 1);
+    m.see("ones", t == u64::MAX);
+    m.see("first", t == 1 << 63);
+    m.see("last", t == (1 << 63) - 1);
+    let month = answer.get(5).copied().unwrap_or(0);
+    let day = answer.get(6).copied().unwrap_or(0);
+    m.see("leap-day", month == 2 && day == 29);
+    m.see("year-end", month == 12 && day == 31);
+}
+
+fn precision(m: &mut Marker, tick: u64, number: u8) {
+    m.see("zero", tick == 0 && number == 28);
+    m.see("over", tick == (1 << 32) + 1 && number == 28);
+    for k in 0..=32 {
+        m.see_at("power-", k, tick == 1 << k && number == 0);
+        m.see_at("power-less-1-", k, k == 0 || tick == (1 << k) - 1);
+        m.see_at("power-and-1-", k, tick == (1 << k) + 1);
+    }
+}
+
+fn halved(m: &mut Marker, sum: i64) {
+    for edge in [-2, -1, 0, 1, 2, i64::MIN, i64::MIN + 1, i64::MAX, i64::MAX - 1] {
+        m.see_at("sum=", edge, sum == edge);
     }
 }
 
