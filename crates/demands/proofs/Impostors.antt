@@ -37,7 +37,7 @@ use Rattle.client.specs.GiveUp.{gaveUp, giveUpTests}
 use Rattle.server.specs.Server.{requestTests, replyFields, replied, repliedBuffer}
 use Rattle.server.specs.Server as server
 use Rattle.lines.specs.Lines.{digitOf}
-use Rattle.replay_lines.specs.Frames.{Reply, answered}
+use Rattle.frames.specs.Frames.{Reply, answered}
 use Rattle.demands.specs.Behaviour.{ask, arrival, Result, refused, done, accepted, kiss, Outcome, Written}
 use Rattle.demands.specs.Lines.{callOf}
 use Rattle.demands.specs.Demand1.{Demand1}

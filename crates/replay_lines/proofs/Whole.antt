@@ -14,8 +14,8 @@ use Rattle.lines.specs.Lines.{digitOf, start, pushedBuffer, hasBegun}
 use Rattle.lines.specs.Decoding.{Frame, octets, malformed, decode, atMost, Held, next, after}
 use Rattle.lines.specs.Text.{text}
 use Rattle.lines.proofs.Decoding.{decoding}
+use Rattle.frames.specs.Frames.{answered, answeredFrame}
 use Rattle.replay_lines.specs.declared.Replay.{Replay}
-use Rattle.replay_lines.specs.Frames.{answered, answeredFrame}
 use Rattle.replay_lines.specs.Replay as all
 use Rattle.replay_lines.specs.Replay.{lines, answers, replay}
 use Rattle.replay_lines.specs.Feed.{begin, longer, reply, answer, ended}

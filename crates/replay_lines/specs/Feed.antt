@@ -6,12 +6,10 @@ use lib.Dec.{eqb, leb}
 use lib.ListN.{length, drop, replicate}
 use Rattle.client.specs.Record.{fresh}
 use Rattle.lines.specs.Lines.{start, pushed, pushedBuffer, hasBegun}
-use Rattle.lines.specs.declared.Line.{Line}
-use Rattle.lines.specs.Decoding.{Frame, read}
 use Rattle.lines.specs.Text.{text}
+use Rattle.frames.specs.Frames.{Reply, frameOf, answeredFrame}
 use Rattle.replay_lines.specs.declared.Replay.{Replay}
 use Rattle.replay_lines.specs.declared.Fed.{Fed}
-use Rattle.replay_lines.specs.Frames.{Reply, answeredFrame}
 
 abbrev pub begin : Replay
 begin = record { client = fresh; line = start; octets = replicate 85 0 }
@@ -19,10 +17,6 @@ begin = record { client = fresh; line = start; octets = replicate 85 0 }
 -- one more character of the line
 abbrev pub longer : Replay → ℕ → Replay
 longer r c = record { client = r .client; line = pushed (r .line) (r .octets) c; octets = pushedBuffer (r .line) (r .octets) c }
-
--- the frame that a line and its octets are
-abbrev pub frameOf : Line → List ℕ → Frame
-frameOf line octets = read (record { line = line; buffer = octets })
 
 -- what the client answers to the line, and the replay after that answer
 abbrev pub reply : Replay → Reply

@@ -7,7 +7,7 @@ use Rattle.client.specs.declared.Client.{Client}
 use Rattle.client.specs.Record.{fresh}
 use Rattle.lines.specs.Decoding.{decode}
 use Rattle.lines.specs.Text.{text}
-use Rattle.replay_lines.specs.Frames.{Reply, answeredFrame}
+use Rattle.frames.specs.Frames.{Reply, answeredFrame}
 
 -- octets that are left over at the end of the input are a line
 abbrev pub leftOver : List ℕ → List (List ℕ)

@@ -8,10 +8,9 @@ ghost use Rattle.replay_lines.specs.Feed.{begin, reply, ran, ending, tol
 ghost use Rattle.replay_lines.specs.Progress.{at, outcome, answered, Step};
 ghost use Rattle.lines.specs.Text.{putLine};
 use client::Client;
+use frames::answer_line;
 use lines::Line;
 use lines::text::put_line;
-
-mod frames;
 
 // The client, the line that has not ended yet, and its octets. The longest frame has 85: its first octet, uptime, clock, and a packet of 68.
 pub struct Replay {
@@ -46,7 +45,7 @@ impl Progress {
         let mut answer = [0u8; 49];
         let client = self.client;
         let line = self.line;
-        let answered = frames::answer_line(client, line, octets, &mut answer);
+        let answered = answer_line(client, line, octets, &mut answer);
         let count = answered.count;
         let end = put_line(output, self.written, &answer[..count]);
         if end == self.written {
