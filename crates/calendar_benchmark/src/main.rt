@@ -6,7 +6,7 @@ use calendar::DateAnswer;
 use calendar::TimestampAnswer;
 use libc::STDIN_FILENO;
 use libc::STDOUT_FILENO;
-use lines::text::put_line;
+use text::put_line;
 use timestamp::Timestamp;
 
 const COUNT: u64 = 10_000_000;

@@ -1,4 +1,3 @@
 pub mod Digits
 pub mod ToLineFeed
-pub mod Written
 pub mod Decoding

@@ -4,8 +4,6 @@ ghost use Prim.Native.Nat.{_<_};
 ghost use Rattle.lines.specs.Lines.{digitOf, isDigit, start, refused, paired, pairedBuffer, pushed, pushedBuffer, isWhole, hasBegun};
 ghost use Rattle.lines.specs.Decoding.{inLine, taken, takenBuffer};
 
-pub mod text;
-
 // What is known of a line so far: how many octets of it stand in a lent buffer, the digit that waits for its second one, and whether a character
 // was no digit or there was no room.
 pub struct Line {

@@ -12,7 +12,7 @@ use Rattle.client.specs.Record.{fresh}
 use Rattle.lines.specs.declared.Line.{Line}
 use Rattle.lines.specs.Lines.{digitOf, start, pushedBuffer, hasBegun}
 use Rattle.lines.specs.Decoding.{Frame, octets, malformed, decode, atMost, Held, next, after}
-use Rattle.lines.specs.Text.{text}
+use Rattle.text.specs.Text.{text}
 use Rattle.lines.proofs.Decoding.{decoding}
 use Rattle.frames.specs.Frames.{answered, answeredFrame}
 use Rattle.replay_lines.specs.declared.Replay.{Replay}

@@ -1,4 +1,4 @@
--- `lines::text::put_octets` meets its contract: what is left to put makes of the output what the whole does. Assumes nothing.
+-- `text::put_octets` meets its contract: what is left to put makes of the output what the whole does. Assumes nothing.
 use Prim.Native.Nat.{_+_, _-_, _*_, _≤_}
 use native.Mathlib.Omega.{arith}
 use mathlib.Core.Path.{_≡_, sym, ap, _∙_}
@@ -6,10 +6,10 @@ use denote.Ref.{now}
 use lib.ListN.{length, drop, drop-of-length-le}
 use lib.Seq.{sets}
 use borrow.Author.Needs.{needs}
-use Rattle.lines.specs.Text.{digits}
-use Rattle.lines.proofs.Written.{length-digits, put-more}
-use Rattle.lines.proofs.text.put_octets.Statement.{statement}
-use Rattle.lines.proofs.text.put_octets.Tie as tie
+use Rattle.text.specs.Text.{digits}
+use Rattle.text.proofs.Written.{length-digits, put-more}
+use Rattle.text.proofs.put_octets.Statement.{statement}
+use Rattle.text.proofs.put_octets.Tie as tie
 
 abbrev Inv-loop : tie.InvT-loop
 Inv-loop output₀ at octets end₀ i₀ output end i =

@@ -1,4 +1,4 @@
--- `lines::text::put_line` meets its contract. Assumes nothing.
+-- `text::put_line` meets its contract. Assumes nothing.
 use Prim.Native.Nat.{_+_}
 use native.Mathlib.Omega.{arith}
 use mathlib.Core.Path.{_∙_}
@@ -7,10 +7,10 @@ use borrow.Author.Needs.{needs}
 use borrow.Author.Tests.{le-leb, lt-leb}
 use lib.ListN.{length}
 use lib.Seq.{length-sets}
-use Rattle.lines.specs.Text.{digits, text, putLine, putLineAt}
-use Rattle.lines.proofs.Written.{length-digits, length-text, put-last}
-use Rattle.lines.proofs.text.put_line.Statement.{statement}
-use Rattle.lines.proofs.text.put_line.Tie as tie
+use Rattle.text.specs.Text.{digits, text, putLine, putLineAt}
+use Rattle.text.proofs.Written.{length-digits, length-text, put-last}
+use Rattle.text.proofs.put_line.Statement.{statement}
+use Rattle.text.proofs.put_line.Tie as tie
 
 returns : tie.Need-returns
 unfolding putLine putLineAt

@@ -4,7 +4,7 @@ ghost use Prim.Native.Nat.{_+_, _≤_};
 ghost use mathlib.Core.List.{[], _∷_};
 ghost use lib.ListN.{length};
 ghost use lib.Seq.{sets};
-ghost use Rattle.lines.specs.Text.{characterOf, digits, putLine, putLineAt};
+ghost use Rattle.text.specs.Text.{characterOf, digits, putLine, putLineAt};
 
 // The character of a digit's value, in upper case.
 fn character(value: u8) -> u8

@@ -1,10 +1,10 @@
--- `lines::text::put_octet` meets its contract. Assumes nothing.
+-- `text::put_octet` meets its contract. Assumes nothing.
 use native.Mathlib.Numerals.{towards-suc}
 use native.Mathlib.Omega.{arith}
 use borrow.Author.Needs.{needs}
 use lib.ListN.{length-set}
-use Rattle.lines.proofs.text.put_octet.Statement.{statement}
-use Rattle.lines.proofs.text.put_octet.Tie as tie
+use Rattle.text.proofs.put_octet.Statement.{statement}
+use Rattle.text.proofs.put_octet.Tie as tie
 
 slice-write-output-2 : tie.Need-slice-write-output-2
 slice-write-output-2 c = simp length-set (omega arith)

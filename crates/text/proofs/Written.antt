@@ -7,7 +7,7 @@ use mathlib.Core.List.{List, [], _∷_, _++_}
 use lib.ListN.{length, drop, getD, length-append}
 use lib.Seq.{sets, drop-cons}
 use Rattle.numbers.proofs.Octets.{sets-append}
-use Rattle.lines.specs.Text.{digits, text}
+use Rattle.text.specs.Text.{digits, text}
 
 pub length-digits : (xs : List ℕ) → length (digits xs) ≡ 2 * length xs
 length-digits [] = refl

@@ -1,10 +1,10 @@
--- `lines::text::character` meets its contract. Assumes nothing.
+-- `text::character` meets its contract. Assumes nothing.
 use native.Mathlib.Omega.{arith}
 use borrow.Author.Needs.{needs}
 use borrow.Author.Tests.{lt-ltb, le-ltb}
-use Rattle.lines.specs.Text.{characterOf}
-use Rattle.lines.proofs.text.character.Statement.{statement}
-use Rattle.lines.proofs.text.character.Tie as tie
+use Rattle.text.specs.Text.{characterOf}
+use Rattle.text.proofs.character.Statement.{statement}
+use Rattle.text.proofs.character.Tie as tie
 
 returns : tie.Need-returns
 unfolding characterOf
