@@ -1,7 +1,7 @@
 //! Timestamps and civil dates worked out directly, for the benchmark: the
 //! year counted from March, so that a leap day is its last one.
 
-use crate::calendar::{month_days, Date};
+use crate::calendar::{exists, Date};
 
 /// Days from 0000-03-01 to 1900-01-01.
 const TO_1900: u64 = 693_901;
@@ -44,15 +44,6 @@ pub fn date_of(timestamp: u64) -> Result<Date, u8> {
         second: (clock % 60) as u8,
         fraction: timestamp as u32,
     })
-}
-
-fn exists(date: &Date) -> bool {
-    (1..=12).contains(&date.month)
-        && date.day >= 1
-        && date.day as i128 <= month_days(date.year, date.month)
-        && date.hour < 24
-        && date.minute < 60
-        && date.second < 60
 }
 
 /// The timestamp of a date; refuses by 25, 26, 24.
