@@ -1,112 +1,115 @@
 -- Demand 3 holds of ours: the server answers the request, and the client that still waits accepts the reply.
 use mathlib.Core.Path.{_≡_, refl, sym, ap, subst, _∙_}
-use mathlib.Core.List.{List}
-use Prim.Native.Nat.{ℕ}
+use mathlib.Core.Logic.{inr}
 use native.Mathlib.Omega.{arith}
 use lib.IntN.{_+ℤ_}
 use Rattle.numbers.proofs.Whole.{whole}
-use Rattle.timestamp.specs.declared.Timestamp.{Timestamp}
-use Rattle.offset.specs.Offset.{floorHalf, halfOf}
+use Rattle.offset.proofs.Halving.{halving}
 use Rattle.packet.specs.declared.Fields.{Fields}
 use Rattle.packet.specs.Packet.{fieldsOf, octetsOf}
-use Rattle.packet.proofs.RoundTrips.{fieldsOf-octetsOf}
 use Rattle.client.specs.declared.Client.{Client}
 use Rattle.client.specs.Ask.{waitingFor}
+use Rattle.client.specs.Calls as calls
+use Rattle.client.specs.Calls.{ask, arrival, Outcome}
 use Rattle.client.proofs.Request.{requestFields}
-use Rattle.server.specs.declared.Settings.{Settings}
 use Rattle.server.specs.Server.{replyFields, synchronisedFields}
-use Rattle.demands.specs.Behaviour.{Call, ask, arrival, step, ours, Result, accepted}
-use Rattle.demands.specs.Taken.{Askable, asks, Acceptable, accepts, Timely, P, Q, d}
-use Rattle.demands.specs.Demand3.{Exchange, T1, T2, T3, T4, after, AllRefused, theArrival, Given, Kept, Demand3}
-use Rattle.demands.proofs.Client.{ask-exactly}
-use Rattle.demands.proofs.Arrival.{accepted-exactly}
+use Rattle.demands.specs.Form.{does}
+use Rattle.demands.specs.Arrival.{accepted, sanityRules, arrivalRules}
+use Rattle.demands.specs.Measure.{Four, fourRules, P, Q, d, offset, half}
+use Rattle.demands.specs.Behaviour.{client, ours}
+use Rattle.demands.specs.Demand3.{Exchange, T1, T2, T3, T4, readings, Run, after, AllRefused, theAsk, theArrival, Premises, Conclusions, Demand3}
+use Rattle.demands.proofs.Form.{Passes, done-so}
+use Rattle.demands.proofs.Client.{client-meets}
 use Rattle.demands.proofs.Exchange.{reading-below, timely, bound}
 use Rattle.demands.proofs.Between.{all-refused, unchanged}
-use Rattle.demands.proofs.Reply.{unrefused-askable, reply-legal, Served, reply-done, reply-octets, answers-it}
+use Rattle.demands.proofs.Served.{asked-is, Served, typed, reply-fields, reply-written, reply-octets, matched}
 
-module _ (e : Exchange) (c : Client) (buffer : List ℕ) (version uptime : ℕ) (s : Settings) (lentBuffer : List ℕ) (calls : List Call)
-    (g : Given ours e c buffer version uptime s lentBuffer calls) where
-  abbrev t1 : Timestamp
-  t1 = T1 e
+module _ (r : Run) (p : Premises ours r) where
+  abbrev e : Exchange
+  e = r .exchange
 
-  abbrev t2 : Timestamp
-  t2 = T2 e
+  abbrev x : calls.Ask
+  x = record { buffer = r .buffer; version = r .version; clock = T1 e; uptime = r .uptime }
 
-  abbrev t3 : Timestamp
-  t3 = T3 e
+  served : Served (r .client) x (r .settings) (T2 e) (T3 e) (r .replyBuffer)
+  served = record {
+    asked = asked-is (r .client) x (p .asked);
+    fits = reading-below (e .client) (e .sent);
+    room = p .room;
+    set = p .set;
+    available = λ z. (p .orderly .nonzero .1, p .orderly .nonzero .2);
+    hold = λ z. timely e (p .orderly) .answered-after;
+  }
 
-  abbrev t4 : Timestamp
-  t4 = T4 e
-
-  askable : Askable c buffer version t1 uptime
-  askable = unrefused-askable c buffer version t1 uptime (g .asked)
-
-  -- the ask, the record that it hands back and the octets that it writes
-  ask-is : step c (ask buffer version t1 uptime) ≡ asks c buffer version t1 uptime
-  ask-is = ask-exactly c buffer version t1 uptime .then askable
-
+  -- the record that the ask hands back, and the fields of the reply
   abbrev w : Client
-  w = waitingFor c version t1 uptime
+  w = waitingFor (r .client) (r .version) (T1 e) (r .uptime)
 
   abbrev said : Fields
-  said = synchronisedFields s (requestFields version t1) t2 t3
+  said = synchronisedFields (r .settings) (requestFields (r .version) (T1 e)) (T2 e) (T3 e)
 
-  fields-are : replyFields s (requestFields version t1) t2 t3 ≡ said
+  octets-are : octetsOf (replyFields (r .settings) (requestFields (r .version) (T1 e)) (T2 e) (T3 e)) ≡ octetsOf said
   unfolding replyFields
-  fields-are = rw (g .settings .synchronised)
+  octets-are = rw (p .synchronised)
 
-  served : Served c buffer version t1 uptime s t2 t3 lentBuffer
-  served = record {
-    askable = askable;
-    fits = reading-below (e .client) (e .sent);
-    room = g .room;
-    leap = g .settings .leap;
-    precision = g .settings .precision;
-    timestamps = λ z. (g .orderly .known .1, g .orderly .known .2, timely e (g .orderly) .answered-after);
-  }
+  of-reply : fieldsOf (octetsOf said) ≡ typed said
+  of-reply =
+      reply-fields (r .version) (T1 e) (served .asked .version .1) (served .fits) (r .settings) (p .set) (r .settings .leap) 1 (r .settings .identifier) (r .settings .reference)
+      (T2 e) (T3 e) (let l = p .set .leap in omega arith) (omega arith) (reading-below (e .server) (e .received)) (reading-below (e .server) (e .answered))
 
   -- the client accepts it
-  of-reply : fieldsOf (octetsOf said) ≡ said
-  of-reply =
-      fieldsOf-octetsOf said
-      (reply-legal version t1 (askable .version-1-to-4 .1) (reading-below (e .client) (e .sent)) s (g .settings .precision) (let l = g .settings .leap in omega arith) (omega arith)
-      (g .settings .identifier) (g .settings .reference) (reading-below (e .server) (e .received)) (reading-below (e .server) (e .answered)))
+  abbrev y : calls.Arrival
+  y = record { packet = octetsOf said; t4 = T4 e }
 
-  acceptable : Acceptable w (octetsOf said) t4
-  acceptable = record {
-    answers = answers-it served said of-reply refl refl refl;
-    no-kiss = λ z. let q = ap (λ f. f .stratum) of-reply in omega arith;
-    clock-known = g .orderly .known .3;
-    synchronised = λ z. let q = ap (λ f. f .leap) of-reply in let l = g .settings .leap in omega arith;
-    stratum = let q = ap (λ f. f .stratum) of-reply in omega arith;
-    receive = λ z. g .orderly .known .1 (sym (ap (λ f. f .receive) of-reply) ∙ z);
-    transmit = λ z. g .orderly .known .2 (sym (ap (λ f. f .transmit) of-reply) ∙ z);
-    «root_delay» = let q = ap (λ f. f .«root_delay») of-reply in omega (arith, whole);
-    «root_dispersion» = let q = ap (λ f. f .«root_dispersion») of-reply in omega arith;
-    timely = subst (λ f. Timely t1 (f .receive) (f .transmit) t4) (sym of-reply) (timely e (g .orderly));
-  }
+  abbrev with : Fields → Four
+  with f = record { t1 = T1 e; t2 = f .receive; t3 = f .transmit; t4 = T4 e }
 
-  after-is : after ours (step c (ask buffer version t1 uptime) .next) calls ≡ w
-  after-is = ap (λ o. after ours (o .next) calls) ask-is ∙ unchanged w refl calls (g .permitted)
+  timely-rules : (o : Outcome) → accepted w y ≡ o → Passes (fourRules (readings e) (does (accepted w y))) o
+  timely-rules o q = let t = timely e (p .orderly) in (t .arrived-after, (t .within-limit, (t .answered-after, (t .delay, (t .ranges, q)))))
 
-  arrival-is : theArrival ours e c buffer version uptime s lentBuffer calls ≡ accepts w (octetsOf said) t4
-  arrival-is = (λ i. step (after-is i) (arrival (reply-octets served said fields-are i) t4)) ∙ accepted-exactly w (octetsOf said) t4 .then acceptable
+  passes : Passes (arrivalRules w y) (accepted w y)
+  passes = matched served said (T4 e) (sanityRules w y) (accepted w y) of-reply refl refl refl (inr (
+    (λ z. let q = ap (λ f. f .stratum) of-reply in omega arith),
+    (
+      p .orderly .nonzero .3,
+      (
+        (λ z. let q = ap (λ f. f .leap) of-reply in let l = p .set .leap in omega arith),
+        (
+          (let q = ap (λ f. f .stratum) of-reply in omega arith),
+          (
+            ((λ z. p .orderly .nonzero .1 (sym (ap (λ f. f .receive) of-reply) ∙ z)), (λ z. p .orderly .nonzero .2 (sym (ap (λ f. f .transmit) of-reply) ∙ z))),
+            (
+              (let q = ap (λ f. f .«root_delay») of-reply in omega (arith, whole)),
+              (
+                (let q = ap (λ f. f .«root_dispersion») of-reply in omega arith),
+                subst (λ f. Passes (fourRules (with f) (does (accepted w y))) (accepted w y)) (sym of-reply) (timely-rules (accepted w y) refl),
+              ),
+            ),
+          ),
+        ),
+      ),
+    ),
+  ))
 
-  abbrev result-of : Fields → Result
-  result-of f =
-      let sum = P t1 (f .receive) (f .transmit) t4 +ℤ Q t1 (f .receive) (f .transmit) t4 in
-      accepted (floorHalf sum) (halfOf sum) (d t1 (f .receive) (f .transmit) t4)
+  after-is : after ours (theAsk ours r .next) (r .calls) ≡ w
+  after-is = ap (λ (o : Outcome). after ours (o .next) (r .calls)) (served .asked .is) ∙ unchanged w refl (r .calls) (p .permitted)
 
-  pub kept : Kept ours e c buffer version uptime s lentBuffer calls
-  kept = record {
-    refusals = subst (λ o. AllRefused ours (o .next) calls) (sym ask-is) (all-refused w refl calls (g .permitted));
-    unchanged = after-is ∙ sym (ap (λ o. o .next) ask-is);
-    answered = reply-done served;
-    offset = floorHalf (P t1 t2 t3 t4 +ℤ Q t1 t2 t3 t4);
-    half = halfOf (P t1 t2 t3 t4 +ℤ Q t1 t2 t3 t4);
-    reply = ap (λ o. o .result) arrival-is ∙ ap result-of of-reply;
-    bound = bound e (g .orderly);
+  arrival-is : theArrival ours r ≡ accepted w y
+  arrival-is =
+      (λ i. ours .does client (after-is i, arrival (record { packet = (reply-octets served ∙ octets-are) i; t4 = T4 e })))
+      ∙ done-so client-meets (w, arrival y) (accepted w y) passes
+
+  pub conclusions : Conclusions ours r
+  conclusions = record {
+    refusals = subst (λ (o : Outcome). AllRefused ours (o .next) (r .calls)) (sym (served .asked .is)) (all-refused w refl (r .calls) (p .permitted));
+    unchanged = after-is ∙ sym (ap (λ (o : Outcome). o .next) (served .asked .is));
+    answered = reply-written served;
+    offset = offset (readings e);
+    half = half (readings e);
+    half-0-or-1 = halving (P (readings e) +ℤ Q (readings e)) .small;
+    reply = ap (λ (o : Outcome). o .result) arrival-is ∙ ap (λ f. calls.accepted (offset (with f)) (half (with f)) (d (with f))) of-reply;
+    bound = bound e (p .orderly);
   }
 
 pub demand3 : Demand3 ours
-demand3 = kept
+demand3 = conclusions

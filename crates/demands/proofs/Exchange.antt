@@ -4,7 +4,6 @@ use mathlib.Core.Path.{_≡_}
 use native.Mathlib.Omega.{arith}
 use lib.IntN.{ℤ, pos, natAbs, _+ℤ_, _-ℤ_}
 use lib.Signed.{_≤ℤ_}
-use Rattle.numbers.specs.Modulo.{_modulo_}
 use Rattle.numbers.proofs.Whole.{up, dn, whole, sum, minus, neg, size, size-le, eq-whole}
 use Rattle.numbers.proofs.Modulo.{modulo-below}
 use Rattle.numbers.proofs.TwosComplement.{exact}
@@ -12,8 +11,8 @@ use Rattle.timestamp.specs.Timestamp.{_⊖_}
 use Rattle.offset.specs.Offset.{floorHalf, halfOf}
 use Rattle.offset.specs.Halving.{twice}
 use Rattle.offset.proofs.Halving.{halving}
-use Rattle.demands.specs.Taken.{Timely, P, Q, d}
-use Rattle.demands.specs.Demand3.{Exchange, reading, T1, T2, T3, T4, trueDifference, Orderly}
+use Rattle.demands.specs.Measure.{P, Q, d, InRange}
+use Rattle.demands.specs.Demand3.{Exchange, reading, T1, T2, T3, T4, readings, trueDifference, Orderly}
 
 pub reading-below : (a t : ℤ) → reading a t .0 < 2 ^ 64
 unfolding reading
@@ -64,8 +63,15 @@ module _ (e : Exchange) (o : Orderly e) where
         second = gap answered server arrived client (omega (arith, whole)) (omega (arith, whole));
       }
 
-  -- every test of the four readings passes
-  pub timely : Timely (T1 e) (T2 e) (T3 e) (T4 e)
+  -- every rule of the four readings holds
+  pub record Timely : Type 0 where
+    pub arrived-after : pos 0 ≤ℤ (T4 e ⊖ T1 e)
+    pub within-limit : (T4 e ⊖ T1 e) ≤ℤ pos (2 ^ 36)
+    pub answered-after : pos 0 ≤ℤ (T3 e ⊖ T2 e)
+    pub delay : pos 0 ≤ℤ d (readings e)
+    pub ranges : InRange (P (readings e)) × InRange (Q (readings e))
+
+  pub timely : Timely
   timely =
       let k = known in
       let out = o .outward in
@@ -78,25 +84,24 @@ module _ (e : Exchange) (o : Orderly e) where
         within-limit = omega (arith, whole);
         answered-after = omega (arith, whole);
         delay = omega (arith, whole);
-        first-range = (omega (arith, whole), omega (arith, whole));
-        second-range = (omega (arith, whole), omega (arith, whole));
+        ranges = ((omega (arith, whole), omega (arith, whole)), (omega (arith, whole), omega (arith, whole)));
       }
 
   -- twice the offset plus the half, less twice the true difference, is at most the delay in size
   abbrev total-sum : ℤ
-  total-sum = P (T1 e) (T2 e) (T3 e) (T4 e) +ℤ Q (T1 e) (T2 e) (T3 e) (T4 e)
+  total-sum = P (readings e) +ℤ Q (readings e)
 
-  pub bound : pos (natAbs (twice (floorHalf total-sum) +ℤ pos (halfOf total-sum) -ℤ twice (trueDifference e))) ≤ℤ d (T1 e) (T2 e) (T3 e) (T4 e)
+  pub bound : pos (natAbs (twice (floorHalf total-sum) +ℤ pos (halfOf total-sum) -ℤ twice (trueDifference e))) ≤ℤ d (readings e)
   bound =
       let k = known in
       let out = o .outward in
       let held = o .hold in
       let back = o .back in
       let D = trueDifference e in
-      let e₁ = sum (P (T1 e) (T2 e) (T3 e) (T4 e)) (Q (T1 e) (T2 e) (T3 e) (T4 e)) in
+      let e₁ = sum (P (readings e)) (Q (readings e)) in
       let e₂ = sum D D in
       let e₃ = minus total-sum (twice D) in
       let e₄ = minus server client in
       let e₅ = minus (T4 e ⊖ T1 e) (T3 e ⊖ T2 e) in
-      let e₆ = neg (d (T1 e) (T2 e) (T3 e) (T4 e)) in
-      rw (halving total-sum .exact) (size-le (total-sum -ℤ twice D) (d (T1 e) (T2 e) (T3 e) (T4 e)) (omega (arith, whole)) (omega (arith, whole)))
+      let e₆ = neg (d (readings e)) in
+      rw (halving total-sum .exact) (size-le (total-sum -ℤ twice D) (d (readings e)) (omega (arith, whole)) (omega (arith, whole)))

@@ -1,6 +1,7 @@
 -- The premises of demand 3 are met.
 use Prim.Native.Nat.{_-_, _^_}
-use mathlib.Core.Path.{refl, sym, subst}
+use mathlib.Core.Path.{_≡_, refl, sym}
+use mathlib.Core.Logic.{_≢_}
 use mathlib.Core.Bool.{Bool, true, not, _&&_}
 use mathlib.Core.List.{List, [], _∷_}
 use lib.Dec.{T, ltb, lit<, lit≤}
@@ -11,24 +12,25 @@ use Rattle.numbers.specs.Modulo.{_modulo_}
 use Rattle.numbers.specs.TwosComplement.{signed, difference}
 use Rattle.timestamp.specs.Timestamp.{isZero, _⊖_}
 use Rattle.packet.specs.Packet.{fieldsOf}
-use Rattle.client.specs.Record.{fresh, illegal}
+use Rattle.client.specs.Record.{illegal}
 use Rattle.client.specs.Ask.{askTests, asked}
-use Rattle.demands.specs.Behaviour.{Behaviour, ours}
-use Rattle.demands.specs.Demand2.{Done}
-use Rattle.demands.specs.Demand3.{Exchange, reading, T1, T2, T3, T4, trueDifference, Orderly, theAsk, Given}
-use Rattle.demands.specs.Witnesses.{replay, ahead, behind, settings, buffer, calls, Witnesses}
-use Rattle.demands.proofs.Tests.{nonzero-is}
+use Rattle.demands.specs.Form.{refusal}
+use Rattle.demands.specs.Behaviour.{Behaviour, client, form, ours}
+use Rattle.demands.specs.Demand3.{Exchange, reading, T1, T2, T3, T4, trueDifference, Orderly, theAsk, Premises}
+use Rattle.demands.specs.Witnesses.{replay, ahead, behind, run, Witnesses}
+use Rattle.demands.proofs.Facts.{available}
+use Rattle.demands.proofs.Form.{acceptance-shown}
 
--- of any behaviour that takes the ask
-pub given : (b : Behaviour) (e : Exchange) → Orderly e → Done (theAsk b e fresh buffer 4 0 settings buffer calls .result)
-    → Given b e fresh buffer 4 0 settings buffer calls
+-- of any behaviour that does not refuse the ask
+pub premises : (b : Behaviour) (e : Exchange) → Orderly e → form client .shown (theAsk b (run e)) .kind ≢ refusal → Premises b (run e)
 unfolding fieldsOf
-given b e o taken = record {
+premises b e o asked = record {
   orderly = o;
-  asked = λ r. subst Done (r .is) taken;
-  settings = record { synchronised = refl; leap = lit≤ tt; precision = (leZ-yes tt, leZ-yes tt); identifier = lit< tt; reference = lit< tt };
+  asked = asked;
+  synchronised = refl;
+  set = record { leap = lit≤ tt; precision = (leZ-yes tt, leZ-yes tt) };
   room = lit≤ tt;
-  permitted = (tt, ((λ whole same. o .known .0 (sym same)), ((λ whole same. o .known .0 (sym same)), (lit< tt, tt))));
+  permitted = (tt, ((λ whole same. o .nonzero .0 (sym same)), ((λ whole same. o .nonzero .0 (sym same)), (lit< tt, tt))));
 }
 
 -- tests, together and one by one
@@ -67,17 +69,17 @@ module _ (e : Exchange) where
         hold = leZ-yes hold;
         back = leZ-yes back;
         short = leZ-yes short;
-        known = (nonzero-is (T1 e) t1, nonzero-is (T2 e) t2, nonzero-is (T3 e) t3, nonzero-is (T4 e) t4);
+        nonzero = (available (T1 e) .from t1, available (T2 e) .from t2, available (T3 e) .from t3, available (T4 e) .from t4);
         near = lit< near;
       }
 
 pub witnesses : Witnesses
 unfolding asked askTests illegal reading _modulo_ _⊖_ difference signed
 witnesses = record {
-  replay-met = given ours replay (orderly replay tt) tt;
+  replay-met = premises ours replay (orderly replay tt) (acceptance-shown .0);
   replay-read = (refl, refl, refl, refl);
-  ahead-met = given ours ahead (orderly ahead tt) tt;
+  ahead-met = premises ours ahead (orderly ahead tt) (acceptance-shown .0);
   ahead-highest = refl;
-  behind-met = given ours behind (orderly behind tt) tt;
+  behind-met = premises ours behind (orderly behind tt) (acceptance-shown .0);
   behind-lowest = refl;
 }

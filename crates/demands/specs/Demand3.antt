@@ -5,18 +5,27 @@ use mathlib.Core.Path.{_≡_}
 use mathlib.Core.Logic.{_≢_}
 use mathlib.Core.Bool.{true}
 use mathlib.Core.List.{List, [], _∷_}
-use lib.IntN.{ℤ, pos, negℤ, natAbs, _+ℤ_, _-ℤ_}
+use lib.Dec.{T}
+use lib.IntN.{ℤ, pos, natAbs, _+ℤ_, _-ℤ_}
 use lib.ListN.{length, take}
 use lib.Signed.{_≤ℤ_}
 use Rattle.numbers.specs.Modulo.{_modulo_}
+use Rattle.refusals.specs.Numbers as numbers
 use Rattle.timestamp.specs.declared.Timestamp.{Timestamp}
 use Rattle.timestamp.specs.Timestamp.{timestamp}
 use Rattle.offset.specs.Halving.{twice}
 use Rattle.packet.specs.Packet.{fieldsOf}
 use Rattle.client.specs.declared.Client.{Client}
+use Rattle.client.specs.Calls.{Call, ask, arrival, giveUp, accepted, Outcome}
 use Rattle.server.specs.declared.Settings.{Settings}
-use Rattle.demands.specs.Behaviour.{Behaviour, Call, ask, arrival, giveUp, lent, Result, refused, done, accepted, Outcome, Written}
-use Rattle.demands.specs.Taken.{zero, Packet, d}
+use Rattle.server.specs.declared.ReplyAnswer.{ReplyAnswer}
+use Rattle.demands.specs.Form.{refusal}
+use Rattle.demands.specs.Common.{notAvailable, IsPacket, Written}
+use Rattle.demands.specs.Measure.{Four, d}
+use Rattle.demands.specs.Reply.{LegallySet}
+use Rattle.demands.specs.Behaviour.{Behaviour, client, reply, form}
+
+-- ---- the exchange
 
 -- true times, and the constants of the two clocks, in units of 2^-32 s: whole numbers of either sign
 pub record Exchange : Type 0 where
@@ -44,6 +53,9 @@ module _ (e : Exchange) where
   abbrev pub T4 : Timestamp
   T4 = reading (e .client) (e .arrived)
 
+  abbrev pub readings : Four
+  readings = record { t1 = T1; t2 = T2; t3 = T3; t4 = T4 }
+
   -- document 01's true difference, not reduced
   abbrev pub trueDifference : ℤ
   trueDifference = e .server -ℤ e .client
@@ -54,73 +66,82 @@ module _ (e : Exchange) where
     pub hold : e .received ≤ℤ e .answered
     pub back : e .answered ≤ℤ e .arrived
     pub short : (e .arrived -ℤ e .sent) ≤ℤ pos (2 ^ 36)
-    pub known : (T1 ≢ zero) × (T2 ≢ zero) × (T3 ≢ zero) × (T4 ≢ zero)
+    pub nonzero : (T1 ≢ notAvailable) × (T2 ≢ notAvailable) × (T3 ≢ notAvailable) × (T4 ≢ notAvailable)
     pub near : natAbs trueDifference < 2 ^ 62 - 2 ^ 36
 
--- a server that is synchronised and legally set
-pub record Synchronised (s : Settings) : Type 0 where
-  pub synchronised : s .synchronised ≡ true
-  pub leap : s .leap ≤ 2
-  pub precision : (negℤ (pos 32) ≤ℤ s .precision) × (s .precision ≤ℤ pos 0)
-  pub identifier : s .identifier < 2 ^ 32
-  pub reference : s .reference .0 < 2 ^ 64
+-- ---- the calls in between
 
--- a call between the ask, at T1 and this uptime, and the arrival of its reply: anything but an arrival whose originate timestamp is T1, and a give-up
+-- A call between the ask, at T1 and this uptime, and the arrival of its reply: anything but an arrival whose originate timestamp is T1, and a give-up
 -- 16 seconds or more past the ask. A packet that 7 refuses has no originate timestamp.
 abbrev pub Permitted : Timestamp → ℕ → Call → Type 0
-Permitted t1 uptime (ask buffer version clock later) = Unit {0}
-Permitted t1 uptime (arrival packet t4) = Packet packet → fieldsOf packet .originate ≢ t1
-Permitted t1 uptime (giveUp later) = later < uptime + 16
+Permitted t1 uptime (ask x) = Unit {0}
+Permitted t1 uptime (arrival x) = IsPacket (x .packet) → fieldsOf (x .packet) .originate ≢ t1
+Permitted t1 uptime (giveUp x) = x .uptime < uptime + 16
 
 abbrev pub AllPermitted : Timestamp → ℕ → List Call → Type 0
 AllPermitted t1 uptime [] = Unit {0}
 AllPermitted t1 uptime (x ∷ xs) = Permitted t1 uptime x × AllPermitted t1 uptime xs
 
--- the call is refused
-pub record IsRefused (r : Result) : Type 0 where
-  pub by : ℕ
-  pub is : r ≡ refused by
+-- ---- the whole run: the ask with what it is given, the server's settings and buffer, and the calls between the ask and the arrival of the reply
+
+pub record Run : Type 0 where
+  pub exchange : Exchange
+  pub client : Client
+  pub buffer : List ℕ
+  pub version : ℕ
+  pub uptime : ℕ
+  pub settings : Settings
+  pub replyBuffer : List ℕ
+  pub calls : List Call
 
 module _ (b : Behaviour) where
+  -- the call is refused by a listed number, and changes nothing
+  pub record IsRefused (c : Client) (x : Call) : Type 0 where
+    pub by : ℕ
+    pub listed : T (numbers.listed by)
+    pub is : b .does client (c, x) ≡ form client .refusal (c, x) by
+
   -- the record after the calls, of which each gets the record that the call before handed back
   abbrev pub after : Client → List Call → Client
   after c [] = c
-  after c (x ∷ xs) = after (b .step c x .next) xs
+  after c (x ∷ xs) = after (b .does client (c, x) .next) xs
 
-  -- each of the calls is refused and writes no octet
   abbrev pub AllRefused : Client → List Call → Type 0
   AllRefused c [] = Unit {0}
-  AllRefused c (x ∷ xs) = IsRefused (b .step c x .result) × (b .step c x .octets ≡ lent x) × AllRefused (b .step c x .next) xs
+  AllRefused c (x ∷ xs) = IsRefused c x × AllRefused (b .does client (c, x) .next) xs
 
-  module _ (e : Exchange) (c : Client) (buffer : List ℕ) (version uptime : ℕ) (s : Settings) (lentBuffer : List ℕ) (calls : List Call) where
+  module _ (r : Run) where
+    abbrev e : Exchange
+    e = r .exchange
+
     -- the ask at T1, the server's answer to the 48 octets that it wrote, and the arrival of the 48 octets of that answer after the calls in between
     abbrev pub theAsk : Outcome
-    theAsk = b .step c (ask buffer version (T1 e) uptime)
+    theAsk = b .does client (r .client, ask (record { buffer = r .buffer; version = r .version; clock = T1 e; uptime = r .uptime }))
 
-    abbrev pub theReply : Written
-    theReply = b .reply (take 48 (theAsk .octets)) s (T2 e) (T3 e) lentBuffer
+    abbrev pub theReply : Written ReplyAnswer
+    theReply = b .does reply (record { settings = r .settings; request = take 48 (theAsk .octets); t2 = T2 e; t3 = T3 e; buffer = r .replyBuffer })
 
     abbrev pub theArrival : Outcome
-    theArrival = b .step (after (theAsk .next) calls) (arrival (take 48 (theReply .octets)) (T4 e))
+    theArrival = b .does client (after (theAsk .next) (r .calls), arrival (record { packet = take 48 (theReply .octets); t4 = T4 e }))
 
-    pub record Given : Type 0 where
+    pub record Premises : Type 0 where
       pub orderly : Orderly e
-      pub asked : IsRefused (theAsk .result) → ⊥  -- the ask is given any record, buffer, version and uptime, so long as it isn't refused
-      pub settings : Synchronised s
-      pub room : 48 ≤ length lentBuffer
-      pub permitted : AllPermitted (T1 e) uptime calls
+      pub asked : form client .shown theAsk .kind ≢ refusal  -- the ask is given any record, buffer, version and uptime, so long as it isn't refused
+      pub synchronised : r .settings .synchronised ≡ true
+      pub set : LegallySet (r .settings)
+      pub room : 48 ≤ length (r .replyBuffer)
+      pub permitted : AllPermitted (T1 e) (r .uptime) (r .calls)
 
-    pub record Kept : Type 0 where
-      pub refusals : AllRefused (theAsk .next) calls
-      pub unchanged : after (theAsk .next) calls ≡ theAsk .next
-      pub answered : theReply .result ≡ done
+    pub record Conclusions : Type 0 where
+      pub refusals : AllRefused (theAsk .next) (r .calls)
+      pub unchanged : after (theAsk .next) (r .calls) ≡ theAsk .next
+      pub answered : theReply .answer ≡ ReplyAnswer.Written
       pub offset : ℤ
       pub half : ℕ
-      pub reply : theArrival .result ≡ accepted offset half (d (T1 e) (T2 e) (T3 e) (T4 e))
-      pub bound : pos (natAbs (twice offset +ℤ pos half -ℤ twice (trueDifference e))) ≤ℤ d (T1 e) (T2 e) (T3 e) (T4 e)
+      pub half-0-or-1 : half ≤ 1
+      pub reply : theArrival .result ≡ accepted offset half (d (readings e))
+      pub bound : pos (natAbs (twice offset +ℤ pos half -ℤ twice (trueDifference e))) ≤ℤ d (readings e)
 
   -- One statement over every exchange, record, buffer, version, uptime, setting and list of calls.
   abbrev pub Demand3 : Type 0
-  Demand3 =
-      (e : Exchange) (c : Client) (buffer : List ℕ) (version uptime : ℕ) (s : Settings) (lentBuffer : List ℕ) (calls : List Call)
-      → Given e c buffer version uptime s lentBuffer calls → Kept e c buffer version uptime s lentBuffer calls
+  Demand3 = (r : Run) → Premises r → Conclusions r

@@ -3,10 +3,10 @@ use Prim.Native.Nat.{ℕ, _+_, _-_, _*_, _^_}
 use mathlib.Core.Path.{_≡_}
 use mathlib.Core.List.{List, [], _∷_, _++_}
 use lib.IntN.{ℤ, pos, negℤ}
-use lib.ListN.{replicate}
+use lib.ListN.{length, replicate, take}
 use Rattle.timestamp.specs.Timestamp.{timestamp}
 use Rattle.offset.specs.declared.OffsetAnswer.{OffsetAnswer}
-use Rattle.offset.specs.Offset.{measured, numberIn, offsetIn, halfIn}
+use Rattle.offset.specs.Offset.{measured}
 use Rattle.calendar.specs.declared.Date.{Date}
 use Rattle.calendar.specs.declared.DateAnswer.{DateAnswer}
 use Rattle.calendar.specs.Dates.{date}
@@ -14,7 +14,9 @@ use Rattle.calendar.specs.Calendar.{dateOf}
 use Rattle.precision.specs.declared.PrecisionAnswer.{PrecisionAnswer}
 use Rattle.precision.specs.Precision.{precisionOf}
 use Rattle.client.specs.Record.{fresh}
-use Rattle.demands.specs.Behaviour.{ask, arrival, Result, accepted, step}
+use Rattle.client.specs.Calls.{ask, arrival, Result, accepted, step}
+use Rattle.demands.specs.Form.{Shown, telling}
+use Rattle.demands.specs.Measure.{shown}
 
 -- a question, and document 01's answer
 pub data Figure : Type 0 where
@@ -29,14 +31,18 @@ pub data Figure : Type 0 where
 abbrev measuredAt : ℕ → ℕ → ℕ → ℕ → OffsetAnswer
 measuredAt t1 t2 t3 t4 = measured (timestamp t1) (timestamp t2) (timestamp t3) (timestamp t4)
 
+-- not refused, and the first values shown are these
+abbrev Begins : Shown → List ℤ → Type 0
+Begins s values = record { kind = s .kind; number = s .number; values = take (length values) (s .values) } ≡ telling values
+
 abbrev pub Right : Figure → Type 0
 Right (gives t1 t2 t3 t4 offset half delay) = measuredAt t1 t2 t3 t4 ≡ OffsetAnswer.Measured offset half delay
-Right (givesHalf t1 t2 t3 t4 offset half) =
-    _≡_ {A = ℕ × ℤ × ℕ} (numberIn (measuredAt t1 t2 t3 t4), offsetIn (measuredAt t1 t2 t3 t4), halfIn (measuredAt t1 t2 t3 t4)) (0, offset, half)
-Right (givesOffset t1 t2 t3 t4 offset) = _≡_ {A = ℕ × ℤ} (numberIn (measuredAt t1 t2 t3 t4), offsetIn (measuredAt t1 t2 t3 t4)) (0, offset)
+Right (givesHalf t1 t2 t3 t4 offset half) = Begins (shown (measuredAt t1 t2 t3 t4)) (offset ∷ pos half ∷ [])
+Right (givesOffset t1 t2 t3 t4 offset) = Begins (shown (measuredAt t1 t2 t3 t4)) (offset ∷ [])
 Right (refusedBy t1 t2 t3 t4 number) = measuredAt t1 t2 t3 t4 ≡ OffsetAnswer.Refused number
 Right (afterAsk clock packet t4 result) =
-    step (step fresh (ask (replicate 48 0) 4 (timestamp clock) 0) .next) (arrival packet (timestamp t4)) .result ≡ result
+    step (step fresh (ask (record { buffer = replicate 48 0; version = 4; clock = timestamp clock; uptime = 0 })) .next) (arrival (record { packet = packet; t4 = timestamp t4 })) .result
+    ≡ result
 Right (secondsAre seconds d) = dateOf (timestamp (seconds * 2 ^ 32)) ≡ DateAnswer.Date d
 Right (ticksGive tick p other q) =
     _≡_ {A = PrecisionAnswer × PrecisionAnswer} (precisionOf tick, precisionOf other) (PrecisionAnswer.Precision p, PrecisionAnswer.Precision q)

@@ -8,9 +8,10 @@ use lib.ListN.{replicate}
 use Rattle.timestamp.specs.Timestamp.{timestamp}
 use Rattle.server.specs.declared.Settings.{Settings}
 use Rattle.client.specs.Record.{fresh}
-use Rattle.demands.specs.Behaviour.{Call, ask, arrival, giveUp, ours}
-use Rattle.demands.specs.Taken.{P, Q}
-use Rattle.demands.specs.Demand3.{Exchange, T1, T2, T3, T4, Given}
+use Rattle.client.specs.Calls.{Call, ask, arrival, giveUp}
+use Rattle.demands.specs.Measure.{P, Q}
+use Rattle.demands.specs.Behaviour.{ours}
+use Rattle.demands.specs.Demand3.{Exchange, T1, T2, T3, T4, readings, Run, Premises}
 
 -- T1 is FFFFFFFA 00000000; the server's clock is 10.125 s ahead; each way takes 0.375 s, and the server a second
 abbrev pub replay : Exchange
@@ -59,21 +60,21 @@ buffer = replicate 48 0
 -- one of each kind: an ask, an arrival with another originate timestamp, one of a wrong length, and a give-up too early
 abbrev pub calls : List Call
 calls =
-    ask buffer 4 (timestamp 0xFFFFFFFA80000000) 1
-    ∷ arrival buffer (timestamp 0xFFFFFFFB00000000)
-    ∷ arrival (replicate 47 0) (timestamp 0xFFFFFFFB40000000)
-    ∷ giveUp 15
+    ask (record { buffer = buffer; version = 4; clock = timestamp 0xFFFFFFFA80000000; uptime = 1 })
+    ∷ arrival (record { packet = buffer; t4 = timestamp 0xFFFFFFFB00000000 })
+    ∷ arrival (record { packet = replicate 47 0; t4 = timestamp 0xFFFFFFFB40000000 })
+    ∷ giveUp (record { uptime = 15 })
     ∷ []
 
 -- a fresh client asks in version 4 at uptime 0
-abbrev pub Met : Exchange → Type 0
-Met e = Given ours e fresh buffer 4 0 settings buffer calls
+abbrev pub run : Exchange → Run
+run e = record { exchange = e; client = fresh; buffer = buffer; version = 4; uptime = 0; settings = settings; replyBuffer = buffer; calls = calls }
 
 pub record Witnesses : Type 0 where
-  pub replay-met : Met replay
+  pub replay-met : Premises ours (run replay)
   pub replay-read : (T1 replay ≡ timestamp 0xFFFFFFFA00000000) × (T2 replay ≡ timestamp 0x0000000480000000)
       × (T3 replay ≡ timestamp 0x0000000580000000) × (T4 replay ≡ timestamp 0xFFFFFFFBC0000000)
-  pub ahead-met : Met ahead
-  pub ahead-highest : P (T1 ahead) (T2 ahead) (T3 ahead) (T4 ahead) ≡ pos (2 ^ 62 - 1)
-  pub behind-met : Met behind
-  pub behind-lowest : Q (T1 behind) (T2 behind) (T3 behind) (T4 behind) ≡ negℤ (pos (2 ^ 62 - 1))
+  pub ahead-met : Premises ours (run ahead)
+  pub ahead-highest : P (readings ahead) ≡ pos (2 ^ 62 - 1)
+  pub behind-met : Premises ours (run behind)
+  pub behind-lowest : Q (readings behind) ≡ negℤ (pos (2 ^ 62 - 1))

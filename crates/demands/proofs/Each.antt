@@ -1,0 +1,24 @@
+-- Every call meets its form.
+use Rattle.demands.specs.Behaviour.{Operation, client, reply, measure, read, write, date, timestamp, precision, entry, tick, line, form, ours}
+use Rattle.demands.proofs.Form.{Meets}
+use Rattle.demands.proofs.Client.{client-meets}
+use Rattle.demands.proofs.Reply.{reply-meets}
+use Rattle.demands.proofs.Measure.{measure-meets}
+use Rattle.demands.proofs.Packet.{read-meets, write-meets}
+use Rattle.demands.proofs.Calendar.{date-meets, timestamp-meets}
+use Rattle.demands.proofs.Precision.{precision-meets}
+use Rattle.demands.proofs.Ledger.{entry-meets, tick-meets}
+use Rattle.demands.proofs.Line.{line-meets}
+
+pub each : (x : Operation) → Meets (form x) (ours .does x)
+each client = client-meets
+each reply = reply-meets
+each measure = measure-meets
+each read = read-meets
+each write = write-meets
+each date = date-meets
+each timestamp = timestamp-meets
+each precision = precision-meets
+each entry = entry-meets
+each tick = tick-meets
+each line = line-meets

@@ -1,0 +1,26 @@
+-- The orders are those of document 01, by computation.
+use mathlib.Core.Path.{refl}
+use Rattle.offset.specs.Offset.{offsetTests}
+use Rattle.client.specs.Ask.{askTests}
+use Rattle.client.specs.Arrival.{replyTests}
+use Rattle.client.specs.GiveUp.{giveUpTests}
+use Rattle.server.specs.Server as server
+use Rattle.ledger.specs.Ledger.{entryTests, tickTests}
+use Rattle.demands.specs.Orders.{Orders}
+
+pub orders : Orders
+unfolding askTests replyTests offsetTests giveUpTests server.replyTests server.requestTests entryTests tickTests
+orders = record {
+  ask = λ c x. record { in-table = refl; in-rules = refl };
+  arrival = λ c x. record { in-table = refl; in-rules = refl };
+  give-up = λ c x. record { in-table = refl; in-rules = refl };
+  server = λ x. record { in-table = refl; in-rules = refl };
+  four = λ x. record { in-table = refl; in-rules = refl };
+  reading = λ p. record { in-table = refl; in-rules = refl };
+  writing = λ x. record { in-table = refl; in-rules = refl };
+  date = λ t. record { in-table = refl; in-rules = refl };
+  timestamp = λ d. record { in-table = refl; in-rules = refl };
+  entries = λ x. record { in-table = refl; in-rules = refl };
+  ticks = λ x. record { in-table = refl; in-rules = refl };
+  precisions = λ n. refl;
+}

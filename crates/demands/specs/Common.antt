@@ -1,0 +1,21 @@
+-- What the rules of several calls speak of.
+use Prim.Native.Nat.{ℕ}
+use mathlib.Core.Path.{_≡_}
+use mathlib.Core.Logic.{_⊎_}
+use mathlib.Core.List.{List}
+use lib.ListN.{length}
+use Rattle.timestamp.specs.declared.Timestamp.{Timestamp}
+use Rattle.timestamp.specs.Timestamp.{constants}
+
+-- the all-zero timestamp: "not available"
+abbrev pub notAvailable : Timestamp
+notAvailable = constants .zero
+
+-- 48 octets, or 68 with an authenticator
+abbrev pub IsPacket : List ℕ → Type 0
+IsPacket p = (length p ≡ 48) ⊎ (length p ≡ 68)
+
+-- what a call that writes into a lent buffer answers, and what the buffer holds then
+pub record Written (A : Type 0) : Type 0 where
+  pub answer : A
+  pub octets : List ℕ

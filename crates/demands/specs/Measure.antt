@@ -1,0 +1,65 @@
+-- The arithmetic of four timestamps: T1 sent, T2 received, T3 answered, T4 arrived.
+use Prim.Native.Nat.{ℕ, _^_}
+use mathlib.Core.List.{[], _∷_}
+use lib.IntN.{ℤ, pos, negℤ, _+ℤ_, _-ℤ_}
+use lib.Signed.{_≤ℤ_, _<ℤ_}
+use Rattle.refusals.specs.Numbers.{arrived-before-sent, arrived-too-late, answered-before-received, delay-negative, difference-out-of-range}
+use Rattle.timestamp.specs.declared.Timestamp.{Timestamp}
+use Rattle.timestamp.specs.Timestamp.{_⊖_}
+use Rattle.offset.specs.declared.OffsetAnswer.{OffsetAnswer}
+use Rattle.offset.specs.Offset.{floorHalf, halfOf, measured}
+use Rattle.demands.specs.Form.{Shown, refusedBy, telling, Rules, _unless_then_, does, Form, Implementation}
+
+pub record Four : Type 0 where
+  pub t1 : Timestamp
+  pub t2 : Timestamp
+  pub t3 : Timestamp
+  pub t4 : Timestamp
+
+-- document 01's first difference P, second difference Q and delay d
+abbrev pub P : Four → ℤ
+P x = x .t2 ⊖ x .t1
+
+abbrev pub Q : Four → ℤ
+Q x = x .t3 ⊖ x .t4
+
+abbrev pub d : Four → ℤ
+d x = (x .t4 ⊖ x .t1) -ℤ (x .t3 ⊖ x .t2)
+
+-- the offset is the greatest whole number not above (P + Q) / 2, and the half is what is left
+abbrev pub offset : Four → ℤ
+offset x = floorHalf (P x +ℤ Q x)
+
+abbrev pub half : Four → ℕ
+half x = halfOf (P x +ℤ Q x)
+
+-- in -2^62 to 2^62 - 1
+abbrev pub InRange : ℤ → Type 0
+InRange z = (negℤ (pos (2 ^ 62)) ≤ℤ z) × (z <ℤ pos (2 ^ 62))
+
+-- the rules of the four, and then the rest
+abbrev pub fourRules : {O : Type 0} → Four → Rules O → Rules O
+fourRules x rest =
+    arrived-before-sent unless pos 0 ≤ℤ (x .t4 ⊖ x .t1) then
+    arrived-too-late unless (x .t4 ⊖ x .t1) ≤ℤ pos (2 ^ 36) then
+    answered-before-received unless pos 0 ≤ℤ (x .t3 ⊖ x .t2) then
+    delay-negative unless pos 0 ≤ℤ d x then
+    difference-out-of-range unless InRange (P x) × InRange (Q x) then
+    rest
+
+-- offset, half and delay
+abbrev pub shown : OffsetAnswer → Shown
+shown (OffsetAnswer.Refused n) = refusedBy 3 n
+shown (OffsetAnswer.Measured offset half delay) = telling (offset ∷ pos half ∷ delay ∷ [])
+
+abbrev pub measure : Form
+measure = record {
+  Input = Four;
+  Outcome = OffsetAnswer;
+  shown = shown;
+  refusal = λ x. OffsetAnswer.Refused;
+  rules = λ x. fourRules x (does (OffsetAnswer.Measured (offset x) (half x) (d x)));
+}
+
+abbrev pub ours : Implementation measure
+ours x = measured (x .t1) (x .t2) (x .t3) (x .t4)

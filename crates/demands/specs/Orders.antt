@@ -1,0 +1,114 @@
+-- The order of each call's tests (document 01), as lists of numbers, in one place. The checker computes that each call's rules, which the demands go by, and
+-- its table of tests, which the contracts of the code go by, have it.
+use Prim.Native.Nat.{ℕ}
+use mathlib.Core.Path.{_≡_}
+use mathlib.Core.List.{List, [], _∷_, _++_}
+use lib.ListN.{length}
+use Rattle.refusals.specs.Tests.{Tests, _if_else_, _when_else_, otherwise}
+use Rattle.timestamp.specs.declared.Timestamp.{Timestamp}
+use Rattle.timestamp.specs.Timestamp.{_⊖_}
+use Rattle.offset.specs.Offset.{offsetTests}
+use Rattle.packet.specs.Packet.{readTests, writeTests}
+use Rattle.calendar.specs.declared.Date.{Date}
+use Rattle.calendar.specs.Calendar.{dateTests, timestampTests}
+use Rattle.client.specs.declared.Client.{Client}
+use Rattle.client.specs.Ask.{askTests}
+use Rattle.client.specs.Arrival.{arrivalTests}
+use Rattle.client.specs.GiveUp.{giveUpTests}
+use Rattle.client.specs.Calls.{Ask, Arrival, GiveUp}
+use Rattle.server.specs.Server.{replyTests}
+use Rattle.ledger.specs.Ledger.{entryTests, tickTests}
+use Rattle.demands.specs.Form.{Rules, _unless_then_, _provided_else_, does, refuses, Form}
+use Rattle.demands.specs.Ask.{askRules}
+use Rattle.demands.specs.Arrival.{arrivalRules}
+use Rattle.demands.specs.GiveUp.{giveUpRules}
+use Rattle.demands.specs.Measure.{Four, P, Q, measure}
+use Rattle.demands.specs.Read.{read}
+use Rattle.demands.specs.Write.{Fill, write}
+use Rattle.demands.specs.Date as dates
+use Rattle.demands.specs.Timestamp as timestamps
+use Rattle.demands.specs.Precision.{precision}
+use Rattle.demands.specs.Reply.{Request, reply}
+use Rattle.demands.specs.Entry.{Entry, entry}
+use Rattle.demands.specs.Tick.{Tick, tick}
+
+-- a test with its number, or the place of a kiss
+pub data Place : Type 0 where
+  test : ℕ → Place
+  kiss : Place
+
+-- ---- document 01's orders
+
+abbrev tests : List ℕ → List Place
+tests [] = []
+tests (n ∷ ns) = test n ∷ tests ns
+
+abbrev pub askOrder : List Place
+askOrder = tests (29 ∷ 1 ∷ 2 ∷ 3 ∷ 4 ∷ 5 ∷ 6 ∷ [])
+
+abbrev pub arrivalOrder : List Place
+arrivalOrder = tests (29 ∷ 7 ∷ 8 ∷ 9 ∷ 10 ∷ 11 ∷ []) ++ kiss ∷ tests (3 ∷ 12 ∷ 13 ∷ 14 ∷ 33 ∷ 34 ∷ 15 ∷ 16 ∷ 17 ∷ 18 ∷ 19 ∷ [])
+
+abbrev pub giveUpOrder : List Place
+giveUpOrder = tests (29 ∷ 8 ∷ 20 ∷ [])
+
+-- 14 and 17 when synchronised
+abbrev pub replyOrder : List Place
+replyOrder = tests (1 ∷ 7 ∷ 21 ∷ 22 ∷ 23 ∷ 14 ∷ 17 ∷ [])
+
+abbrev pub measureOrder : List Place
+measureOrder = tests (15 ∷ 16 ∷ 17 ∷ 18 ∷ 19 ∷ [])
+
+abbrev pub readOrder : List Place
+readOrder = tests (7 ∷ [])
+
+abbrev pub writeOrder : List Place
+writeOrder = tests (1 ∷ 27 ∷ [])
+
+abbrev pub dateOrder : List Place
+dateOrder = tests (24 ∷ [])
+
+abbrev pub timestampOrder : List Place
+timestampOrder = tests (25 ∷ 26 ∷ 24 ∷ [])
+
+abbrev pub precisionOrder : List Place
+precisionOrder = tests (28 ∷ [])
+
+abbrev pub entryOrder : List Place
+entryOrder = tests (29 ∷ 30 ∷ 31 ∷ [])
+
+abbrev pub tickOrder : List Place
+tickOrder = tests (29 ∷ 32 ∷ [])
+
+-- ---- the orders of rules and tables
+
+abbrev pub ofRules : {O : Type 0} → Rules O → List Place
+ofRules (n unless P then rest) = test n ∷ ofRules rest
+ofRules (o provided P else rest) = kiss ∷ ofRules rest
+ofRules (does o) = []
+ofRules (refuses n) = test n ∷ []
+
+abbrev pub ofTable : {A : Type 0} → Tests A → List Place
+ofTable (n if b else rest) = test n ∷ ofTable rest
+ofTable (a when b else rest) = kiss ∷ ofTable rest
+ofTable (otherwise a) = []
+
+-- both have this order
+pub record Both {A O : Type 0} (order : List Place) (table : Tests A) (rules : Rules O) : Type 0 where
+  pub in-table : ofTable table ≡ order
+  pub in-rules : ofRules rules ≡ order
+
+pub record Orders : Type 0 where
+  pub ask : (c : Client) (x : Ask) → Both askOrder (askTests c (length (x .buffer)) (x .version) (x .clock) (x .uptime)) (askRules c x)
+  pub arrival : (c : Client) (x : Arrival) → Both arrivalOrder (arrivalTests c (x .packet) (x .t4)) (arrivalRules c x)
+  pub give-up : (c : Client) (x : GiveUp) → Both giveUpOrder (giveUpTests c (x .uptime)) (giveUpRules c x)
+  pub server : (x : Request) → Both replyOrder (replyTests (x .request) (x .settings) (x .t2) (x .t3) (x .buffer)) (reply .rules x)
+  pub four : (x : Four) → Both measureOrder (offsetTests (x .t4 ⊖ x .t1) (x .t3 ⊖ x .t2) (P x) (Q x)) (measure .rules x)
+  pub reading : (p : List ℕ) → Both readOrder (readTests p) (read .rules p)
+  pub writing : (x : Fill) → Both writeOrder (writeTests (x .buffer) (x .fields)) (write .rules x)
+  pub date : (t : Timestamp) → Both dateOrder (dateTests t) (dates.date .rules t)
+  pub timestamp : (d : Date) → Both timestampOrder (timestampTests d) (timestamps.timestamp .rules d)
+  pub entries : (x : Entry) → Both entryOrder (entryTests (x .ledger) (x .offset) (x .half)) (entry .rules x)
+  pub ticks : (x : Tick) → Both tickOrder (tickTests (x .ledger) (x .limit)) (tick .rules x)
+  -- the precision octet's table stands in its definition (precision/specs/Precision.antt)
+  pub precisions : (n : ℕ) → ofRules (precision .rules n) ≡ precisionOrder
