@@ -2,12 +2,11 @@
 use mathlib.Core.Path.{_≡_, refl, sym, ap, _∙_, subst}
 use Prim.Native.Nat.{ℕ, zero, suc}
 use native.Mathlib.Omega.{arith}
-use mathlib.Core.Bool.{Bool, true, false, not, cond, _&&_, _||_}
+use mathlib.Core.Bool.{Bool, true, false, not, _&&_, _||_}
 use mathlib.Core.Logic.{_↔_}
-use borrow.Author.Tests.{ne-eqb}
 use lib.Dec.{T, eqb, ltb, ltb→lt}
 use mir.Facts.{and-yes}
-use Rattle.refusals.specs.Tests.{Tests, _if_else_, _when_else_, otherwise, Given, refused, answered, given, numberOf, number, answer, answerOf, kept, keptOf, carry, orElse}
+use Rattle.refusals.specs.Tests.{Tests, _if_else_, _when_else_, otherwise, Given, refused, answered, given, numberOf, number, answer, answerOf, kept, keptOf, carry}
 
 module _ {A : Type 0} where
   -- the row k is the first whose test holds; the last row, `otherwise`, has none to fail
@@ -129,35 +128,54 @@ module _ {A : Type 0} where
   pub kept-passing : {B : Type 0} (t : Tests A) (old new : B) → T (plain t) → number t ≡ 0 → kept t old new ≡ new
   kept-passing t old new l e = ap (λ g. keptOf g old new) (passes t (passed t l e))
 
-  -- ---- a table in code, read from its last line to its first
+  -- ---- a table in code: `if test { return NUMBER; }` a row, in the table's order, and 0 at the end
 
-  -- r is the number of the tests t, after tests that gave n
-  pub record From (n : ℕ) (t : Tests A) (r : ℕ) : Type 0 where
-    pub is : r ≡ cond (eqb n 0) (number t) n
+  -- the test of the row k
+  abbrev pub test : ℕ → Tests A → Bool
+  test zero (n if b else rest) = b
+  test zero (a when b else rest) = b
+  test zero (otherwise a) = true
+  test (suc k) (n if b else rest) = test k rest
+  test (suc k) (a when b else rest) = test k rest
+  test (suc k) (otherwise a) = true
 
-  pub last-line : (n m : ℕ) (b : Bool) (a : A) {r : ℕ} → r ≡ orElse n b m → From n (m if b else otherwise a) r
-  unfolding orElse
-  last-line n m b a e = record { is = e ∙ go b }
+  -- the table without its first k rows
+  abbrev pub from : ℕ → Tests A → Tests A
+  from zero t = t
+  from (suc k) (n if b else rest) = from k rest
+  from (suc k) (a when b else rest) = from k rest
+  from (suc k) (otherwise a) = otherwise a
+
+  -- the code is at the row k: no test before it holds
+  pub record At (k : ℕ) (t : Tests A) : Type 0 where
+    pub is : given t ≡ given (from k t)
+
+  pub starts : {t : Tests A} → At 0 t
+  starts = record { is = refl }
+
+  -- the test of the row k does not hold: the code goes on to the next row
+  pub goes-on : {k : ℕ} {t : Tests A} → At k t → test k t ≡ false → At (suc k) t
+  goes-on {k} {t} at e = record { is = at .is ∙ go k t e }
     where
-      go : (b : Bool) → cond (eqb n 0) (cond b m 0) n ≡ cond (eqb n 0) (number (m if b else otherwise a)) n
-      go true = refl
-      go false = refl
+      go : (k : ℕ) (t : Tests A) → test k t ≡ false → given (from k t) ≡ given (from (suc k) t)
+      go zero (n if b else rest) e = rw e
+      go zero (a when b else rest) e = rw e
+      go zero (otherwise a) e = refl
+      go (suc k) (n if b else rest) e = go k rest e
+      go (suc k) (a when b else rest) e = go k rest e
+      go (suc k) (otherwise a) e = refl
 
-  pub line : (n m : ℕ) (b : Bool) {n′ r : ℕ} {rest : Tests A} → T (ltb 0 m) → n′ ≡ orElse n b m → From n′ rest r → From n (m if b else rest) r
-  unfolding orElse
-  line n m b {rest = rest} some e f = record { is = f .is ∙ ap (λ x. cond (eqb x 0) (number rest) x) e ∙ go (eqb n 0) b refl }
+  -- it holds, or the row is the last: the code returns this row's number
+  pub returned : {k : ℕ} {t : Tests A} → At k t → test k t ≡ true → numberOf (row k t) ≡ number t
+  returned {k} {t} at e = sym (ap numberOf (at .is ∙ go k t e))
     where
-      go : (z b : Bool) → eqb n 0 ≡ z → cond (eqb (cond z (cond b m 0) n) 0) (number rest) (cond z (cond b m 0) n) ≡ cond z (number (m if b else rest)) n
-      go true true h = rw (ne-eqb m 0 (λ q. omega (arith, ltb→lt 0 m some)))
-      go true false h = refl
-      go false b h = rw h
-
-  -- a test that is known to fail has no line
-  pub no-line : (m : ℕ) {n r : ℕ} {rest : Tests A} → From n rest r → From n (m if false else rest) r
-  no-line m f = record { is = f .is }
-
-  pub first-line : (t : Tests A) {r : ℕ} → From 0 t r → r ≡ number t
-  first-line t f = f .is
+      go : (k : ℕ) (t : Tests A) → test k t ≡ true → given (from k t) ≡ row k t
+      go zero (n if b else rest) e = rw e
+      go zero (a when b else rest) e = rw e
+      go zero (otherwise a) e = refl
+      go (suc k) (n if b else rest) e = go k rest e
+      go (suc k) (a when b else rest) e = go k rest e
+      go (suc k) (otherwise a) e = refl
 
 -- what a table gives has the property P where what each row gives has it, wherever that row is the first whose test holds
 module _ {A : Type 0} (P : Given A → Type 0) where
