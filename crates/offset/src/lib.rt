@@ -1,6 +1,6 @@
 // The clock offset of four timestamps: T1 sent, T2 received, T3 answered, T4 arrived.
 ghost use mathlib.Core.Path.{_≡_};
-ghost use Rattle.refusals.specs.Tests.{number, answer};
+ghost use Rattle.ordered_tests.specs.Tests.{number, answer};
 ghost use Rattle.offset.specs.Offset.{halves, outOfRange, offsetTests, measured};
 use timestamp::Timestamp;
 

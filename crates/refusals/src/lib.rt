@@ -1,7 +1,6 @@
 // The numbers that a caller may see. Each has one name here and the same name in specs/Numbers.antt; `numbers` ties the two.
 ghost use mathlib.Core.Path.{_≡_};
 ghost use Rattle.refusals.specs.Numbers.{numbers};
-ghost use Rattle.refusals.specs.Tests.{between};
 
 // Buffer under 48 octets.
 pub const BUFFER_TOO_SHORT: u8 = 1;
@@ -149,11 +148,4 @@ pub fn numbers() -> [u8; 35]
         ROOT_DISPERSION_TOO_LARGE,
         LINE_MALFORMED,
     ]
-}
-
-// Low to high, both included.
-pub fn between(low: u8, high: u8, n: u8) -> bool
-    ensures { λ r. ⌜ r ≡ between low high n ⌝ }
-{
-    (low <= n) & (n <= high)
 }

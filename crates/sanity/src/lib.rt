@@ -1,6 +1,6 @@
 // The sanity checks of a server's reply that need no record of the request (RFC 4330, section 5).
 ghost use mathlib.Core.Path.{_≡_};
-ghost use Rattle.refusals.specs.Tests.{number, pass};
+ghost use Rattle.ordered_tests.specs.Tests.{number, pass};
 ghost use Rattle.sanity.specs.Sanity.{useTests, rootDelayOutOfRange, rootDispersionTooLarge, rootTests};
 use packet::Fields;
 use timestamp::Timestamp;

@@ -3,12 +3,12 @@ ghost use mathlib.Core.Path.{_≡_};
 ghost use Prim.Native.Nat.{_≤_};
 ghost use mathlib.Core.List.{_++_};
 ghost use lib.ListN.{length, drop};
-ghost use Rattle.refusals.specs.Tests.{number, answer, kept};
+ghost use Rattle.ordered_tests.specs.Tests.{number, answer, kept};
 ghost use Rattle.packet.specs.Packet.{octetsOf, written};
 ghost use Rattle.server.specs.Server.{outOfRange, requestTests, replyWith, synchronisedFields, unsynchronisedFields, replyFields, replied, repliedBuffer};
+use ordered_tests::between;
 use packet::Fields;
 use packet::FieldsAnswer;
-use refusals::between;
 use timestamp::Timestamp;
 
 // `leap` is LI; `identifier` and `reference` say from where and when the server's clock was last set.

@@ -3,8 +3,8 @@ use mathlib.Core.Path.{_≡_, refl, _∙_}
 use mir.Syntax.{w64}
 use mir.Facts.{toZ-ofZ}
 use Rattle.numbers.proofs.Machine.{held}
-use Rattle.refusals.specs.Tests.{Tests, number}
-use Rattle.refusals.proofs.Tests.{At, starts, goes-on, returned}
+use Rattle.ordered_tests.specs.Tests.{Tests, number}
+use Rattle.ordered_tests.proofs.Tests.{At, starts, goes-on, returned}
 use Rattle.offset.specs.declared.OffsetAnswer.{OffsetAnswer}
 use Rattle.offset.specs.Offset.{offsetTests}
 use Rattle.offset.proofs.Judged.{lt-minus}

@@ -4,8 +4,8 @@ use borrow.Author.Tests.{eq-eqb, ne-eqb, lt-ltb, le-ltb}
 use mir.Syntax.{w32}
 use mir.Val.{SFits}
 use mir.Facts.{toZ-ofZ}
-use Rattle.refusals.specs.Tests.{Tests, pass}
-use Rattle.refusals.proofs.Tests.{At, starts, goes-on, returned}
+use Rattle.ordered_tests.specs.Tests.{Tests, pass}
+use Rattle.ordered_tests.proofs.Tests.{At, starts, goes-on, returned}
 use Rattle.sanity.specs.Sanity.{useTests, rootDelayOutOfRange, rootTests}
 use Rattle.sanity.proofs.first_refusal.Statement.{statement}
 use Rattle.sanity.proofs.first_refusal.Tie as tie

@@ -4,8 +4,8 @@ use mathlib.Core.Bool.{not}
 use borrow.Author.Tests.{eq-eqb, ne-eqb}
 use mir.Syntax.{w64}
 use Rattle.numbers.proofs.Machine.{told}
-use Rattle.refusals.specs.Tests.{Tests}
-use Rattle.refusals.proofs.Tests.{At, starts, goes-on, returned}
+use Rattle.ordered_tests.specs.Tests.{Tests}
+use Rattle.ordered_tests.proofs.Tests.{At, starts, goes-on, returned}
 use Rattle.server.specs.Server.{requestTests}
 use Rattle.server.specs.declared.ReplyAnswer.{ReplyAnswer}
 use Rattle.server.proofs.first_refusal.Statement.{statement}

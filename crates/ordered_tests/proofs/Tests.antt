@@ -6,7 +6,7 @@ use mathlib.Core.Bool.{Bool, true, false, not, _&&_, _||_}
 use mathlib.Core.Logic.{_↔_}
 use lib.Dec.{T, eqb, ltb, ltb→lt}
 use mir.Facts.{and-yes}
-use Rattle.refusals.specs.Tests.{Tests, _if_else_, _when_else_, otherwise, Given, refused, answered, given, numberOf, number, answer, answerOf, kept, keptOf, carry}
+use Rattle.ordered_tests.specs.Tests.{Tests, _if_else_, _when_else_, otherwise, Given, refused, answered, given, numberOf, number, answer, answerOf, kept, keptOf, carry}
 
 module _ {A : Type 0} where
   -- the row k is the first whose test holds; the last row, `otherwise`, has none to fail
