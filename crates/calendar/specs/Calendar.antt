@@ -3,7 +3,7 @@ use Prim.Native.Nat.{ℕ, _+_, _-_, _^_}
 use mathlib.Core.Bool.{Bool, cond, not, _&&_}
 use lib.Dec.{leb, ltb}
 use Rattle.refusals.specs.Numbers.{timestamp-zero, no-such-date, outside-window}
-use Rattle.refusals.specs.Tests.{Tests, _if_else_, otherwise, answer}
+use Rattle.ordered_tests.specs.Tests.{Tests, _if_else_, otherwise, answer}
 use Rattle.timestamp.specs.declared.Timestamp.{Timestamp}
 use Rattle.timestamp.specs.Timestamp.{timestamp, fromSeconds, secondsOf, fractionOf, isZero}
 use Rattle.calendar.specs.Dates.{date, exists, secondsTo, dateAt}

@@ -3,7 +3,7 @@ ghost use mathlib.Core.Path.{_≡_};
 ghost use mathlib.Core.Bool.{true};
 ghost use Prim.Native.Nat.{_+_, _*_, _^_, _≤_, _<_};
 ghost use Rattle.refusals.specs.Numbers.{timestamp-zero};
-ghost use Rattle.refusals.specs.Tests.{_if_else_, otherwise, answer};
+ghost use Rattle.ordered_tests.specs.Tests.{_if_else_, otherwise, answer};
 ghost use Rattle.timestamp.specs.Timestamp.{isZero};
 ghost use Rattle.calendar.specs.Dates.{exists, secondsTo, dateAt};
 ghost use Rattle.calendar.specs.Calendar.{start1900, start2036, secondsAt, inWindow, eraSeconds, dateOf, timestampOf};

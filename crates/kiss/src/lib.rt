@@ -1,40 +1,55 @@
 // Kiss codes: the reference identifier of a reply of stratum 0 (RFC 4330, section 8).
 ghost use mathlib.Core.Path.{_≡_};
-ghost use lib.Dec.{eqb};
-ghost use Rattle.refusals.specs.Tests.{orElse};
-ghost use Rattle.kiss.specs.Kiss.{codeOf, rowOf};
-use refusals::or_else;
+ghost use Rattle.kiss.specs.Kiss.{rowOf};
 
-// The four octets of a name as a reference identifier.
-pub fn code(name: &[u8; 4]) -> u32
-    ensures { λ r. ⌜ r ≡ codeOf (now (name .entry)) ⌝ }
-{
-    octets::join32(name[0], name[1], name[2], name[3])
-}
+// The four octets of each name as a number.
+const ACST: u32 = 0x4143_5354;
 
-// One more name of the list.
-fn named(sofar: u8, c: u32, name: &[u8; 4], row: u8) -> u8
-    ensures { λ r. ⌜ r ≡ orElse sofar (eqb c (codeOf (now (name .entry)))) row ⌝ }
-{
-    or_else(sofar, c == code(name), row)
-}
+const AUTH: u32 = 0x4155_5448;
+
+const AUTO: u32 = 0x4155_544F;
+
+const BCST: u32 = 0x4243_5354;
+
+const CRYP: u32 = 0x4352_5950;
+
+const DENY: u32 = 0x4445_4E59;
+
+const DROP: u32 = 0x4452_4F50;
+
+const RSTR: u32 = 0x5253_5452;
+
+pub const INIT: u32 = 0x494E_4954;
+
+const MCST: u32 = 0x4D43_5354;
+
+const NKEY: u32 = 0x4E4B_4559;
+
+const RATE: u32 = 0x5241_5445;
+
+const RMOT: u32 = 0x524D_4F54;
+
+const STEP: u32 = 0x5354_4550;
 
 // The row of a code in document 01's list, from 1 on; 0 for any other code.
-pub fn row(c: u32) -> u8
-    ensures { λ r. ⌜ r ≡ rowOf c ⌝ }
+pub fn row(code: u32) -> u8
+    ensures { λ r. ⌜ r ≡ rowOf code ⌝ }
 {
-    let n = named(0, c, b"ACST", 1);
-    let n = named(n, c, b"AUTH", 2);
-    let n = named(n, c, b"AUTO", 3);
-    let n = named(n, c, b"BCST", 4);
-    let n = named(n, c, b"CRYP", 5);
-    let n = named(n, c, b"DENY", 6);
-    let n = named(n, c, b"DROP", 7);
-    let n = named(n, c, b"RSTR", 8);
-    let n = named(n, c, b"INIT", 9);
-    let n = named(n, c, b"MCST", 10);
-    let n = named(n, c, b"NKEY", 11);
-    let n = named(n, c, b"RATE", 12);
-    let n = named(n, c, b"RMOT", 13);
-    named(n, c, b"STEP", 14)
+    match code {
+        ACST => 1,
+        AUTH => 2,
+        AUTO => 3,
+        BCST => 4,
+        CRYP => 5,
+        DENY => 6,
+        DROP => 7,
+        RSTR => 8,
+        INIT => 9,
+        MCST => 10,
+        NKEY => 11,
+        RATE => 12,
+        RMOT => 13,
+        STEP => 14,
+        _ => 0,
+    }
 }

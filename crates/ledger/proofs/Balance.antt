@@ -13,8 +13,8 @@ use mir.Facts.{and-yes}
 use Rattle.numbers.proofs.Whole.{whole, sum, minus}
 use Rattle.numbers.proofs.Machine.{is-false}
 use Rattle.refusals.specs.Numbers.{record-not-legal, entry-too-large, debt-too-large, limit-out-of-range}
-use Rattle.refusals.specs.Tests.{answerOf, between}
-use Rattle.refusals.proofs.Tests.{by-rows}
+use Rattle.ordered_tests.specs.Tests.{answerOf, between}
+use Rattle.ordered_tests.proofs.Tests.{by-rows}
 use Rattle.ledger.specs.declared.Ledger.{Ledger}
 use Rattle.ledger.specs.Ledger.{opened, halfUnits, tooMuch, illegal, entryTests, refusedEntry, payment, tickTests, refusedTick, numberInEntry, numberInTick}
 use Rattle.ledger.specs.Balance.{Call, entry, tick, next, addedBy, added, paidIn, paid, after, allAdded, allPaid, AllLegal, ticks, ceiling, Balance}

@@ -6,7 +6,7 @@ use mathlib.Core.Bool.{true, false}
 use mathlib.Core.List.{List, [], _∷_}
 use lib.IntN.{ℤ, pos, _+ℤ_, _-ℤ_, natAbs}
 use Rattle.refusals.specs.Numbers.{record-not-legal}
-use Rattle.refusals.specs.Tests.{between}
+use Rattle.ordered_tests.specs.Tests.{between}
 use Rattle.ledger.specs.declared.Ledger.{Ledger}
 use Rattle.ledger.specs.declared.EntryAnswer.{EntryAnswer}
 use Rattle.ledger.specs.declared.TickAnswer.{TickAnswer}

@@ -4,7 +4,7 @@ use mathlib.Core.Bool.{Bool, not, _||_}
 use lib.Dec.{leb}
 use lib.IntN.{ℤ, pos, negsuc, negℤ, _+ℤ_, _-ℤ_, natAbs}
 use Rattle.refusals.specs.Numbers.{record-not-legal, entry-too-large, debt-too-large, limit-out-of-range}
-use Rattle.refusals.specs.Tests.{Tests, _if_else_, otherwise, answer, between}
+use Rattle.ordered_tests.specs.Tests.{Tests, _if_else_, otherwise, answer, between}
 use Rattle.ledger.specs.declared.Ledger.{Ledger}
 use Rattle.ledger.specs.declared.Entered.{Entered}
 use Rattle.ledger.specs.declared.EntryAnswer.{EntryAnswer}

@@ -6,7 +6,7 @@
 // still owed: the caller adds 3 units, and the reading is the same.
 ghost use mathlib.Core.Path.{_≡_};
 ghost use mathlib.Core.Bool.{not};
-ghost use Rattle.refusals.specs.Tests.{between};
+ghost use Rattle.ordered_tests.specs.Tests.{between};
 ghost use Prim.Native.Nat.{_^_, _≤_, _<_, min};
 ghost use lib.IntN.{_+ℤ_, _-ℤ_, natAbs};
 ghost use Rattle.ledger.specs.Ledger.{opened, halfUnits, tooMuch, tooLarge, refusedEntry, entered, payment, refusedTick, ticked};

@@ -5,7 +5,8 @@ use mathlib.Core.Path.{_≡_, refl}
 use mathlib.Core.Bool.{Bool, true, false, _||_, true≢false, false≢true}
 use borrow.Author.Tests.{leb-true}
 use lib.Dec.{leb}
-use Rattle.lines.specs.Lines.{between, digitOf, isDigit}
+use Rattle.ordered_tests.specs.Tests.{between}
+use Rattle.lines.specs.Lines.{digitOf, isDigit}
 
 -- where neither of two holds, the second does not
 pub or-right : (a b : Bool) → a || b ≡ false → b ≡ false

@@ -4,10 +4,8 @@ use mathlib.Core.Bool.{Bool, true, false, not, cond, _&&_, _||_}
 use mathlib.Core.List.{List}
 use lib.Dec.{ltb, leb, eqb}
 use lib.ListN.{length, set}
+use Rattle.ordered_tests.specs.Tests.{between}
 use Rattle.lines.specs.declared.Line.{Line}
-
-abbrev pub between : ℕ → ℕ → ℕ → Bool
-between low high c = leb low c && leb c high
 
 -- the value of a hexadecimal digit of either case, and 16 for any other character
 unfoldable pub digitOf : ℕ → ℕ

@@ -10,8 +10,8 @@ use mir.Val.{SFits}
 use mir.Facts.{or-no, T-not-not}
 use Rattle.numbers.proofs.Whole.{whole, sum, minus, neg, test-whole}
 use Rattle.numbers.proofs.Machine.{is-true, is-false, flags, fits-whole}
-use Rattle.refusals.specs.Tests.{number}
-use Rattle.refusals.proofs.Tests.{Passes, passed}
+use Rattle.ordered_tests.specs.Tests.{number}
+use Rattle.ordered_tests.proofs.Tests.{Passes, passed}
 use Rattle.offset.specs.Offset.{outOfRange, offsetTests}
 
 -- trip < hold is the test of d below zero

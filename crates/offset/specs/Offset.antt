@@ -5,7 +5,7 @@ use lib.IntN.{ℤ, pos, negsuc, negℤ, _+ℤ_, _-ℤ_}
 use lib.Signed.{ltZ}
 use Rattle.numbers.specs.Modulo.{_modulo_}
 use Rattle.refusals.specs.Numbers.{arrived-before-sent, arrived-too-late, answered-before-received, delay-negative, difference-out-of-range}
-use Rattle.refusals.specs.Tests.{Tests, _if_else_, otherwise, answer}
+use Rattle.ordered_tests.specs.Tests.{Tests, _if_else_, otherwise, answer}
 use Rattle.timestamp.specs.declared.Timestamp.{Timestamp}
 use Rattle.timestamp.specs.Timestamp.{constants, _⊖_, negative}
 use Rattle.offset.specs.declared.Halves.{Halves}

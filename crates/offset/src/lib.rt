@@ -1,8 +1,7 @@
 // The clock offset of four timestamps: T1 sent, T2 received, T3 answered, T4 arrived.
 ghost use mathlib.Core.Path.{_≡_};
-ghost use Rattle.refusals.specs.Tests.{number, answer};
+ghost use Rattle.ordered_tests.specs.Tests.{number, answer};
 ghost use Rattle.offset.specs.Offset.{halves, outOfRange, offsetTests, measured};
-use refusals::or_else;
 use timestamp::Timestamp;
 
 // The refusal's number, or the offset with its half, and the round-trip delay, all in units of 2^-32 s.
@@ -37,15 +36,22 @@ fn out_of_range(z: i64) -> bool
 fn first_refusal(trip: i64, hold: i64, p: i64, q: i64) -> u8
     ensures { λ r. ⌜ r ≡ number (offsetTests trip hold p q) ⌝ }
 {
-    let n = or_else(0, trip < 0, refusals::ARRIVED_BEFORE_SENT);
-    let n = or_else(n, Timestamp::LIMIT < trip, refusals::ARRIVED_TOO_LATE);
-    let n = or_else(n, hold < 0, refusals::ANSWERED_BEFORE_RECEIVED);
-    let n = or_else(n, trip < hold, refusals::DELAY_NEGATIVE);
-    or_else(
-        n,
-        out_of_range(p) | out_of_range(q),
-        refusals::DIFFERENCE_OUT_OF_RANGE,
-    )
+    if trip < 0 {
+        return refusals::ARRIVED_BEFORE_SENT;
+    }
+    if Timestamp::LIMIT < trip {
+        return refusals::ARRIVED_TOO_LATE;
+    }
+    if hold < 0 {
+        return refusals::ANSWERED_BEFORE_RECEIVED;
+    }
+    if trip < hold {
+        return refusals::DELAY_NEGATIVE;
+    }
+    if out_of_range(p) | out_of_range(q) {
+        return refusals::DIFFERENCE_OUT_OF_RANGE;
+    }
+    0
 }
 
 fn judge(trip: i64, hold: i64, p: i64, q: i64) -> OffsetAnswer

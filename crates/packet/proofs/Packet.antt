@@ -12,7 +12,7 @@ use lib.Seq.{sets, sets-eq}
 use Rattle.numbers.specs.Octets.{bigEndian, octets, AreOctets}
 use Rattle.numbers.proofs.Octets.{length-octets, octets-bigEndian}
 use Rattle.refusals.specs.Numbers.{packet-length-wrong}
-use Rattle.refusals.specs.Tests.{_if_else_, otherwise, answer}
+use Rattle.ordered_tests.specs.Tests.{_if_else_, otherwise, answer}
 use Rattle.packet.specs.declared.Fields.{Fields}
 use Rattle.packet.specs.declared.FieldsAnswer.{FieldsAnswer}
 use Rattle.packet.specs.Packet.{fieldsOf, octetsOf, wrongLength, readAnswer, tooLarge, writeNumber, written}

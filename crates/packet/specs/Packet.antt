@@ -7,7 +7,7 @@ use lib.Dec.{ltb, eqb}
 use Rattle.numbers.specs.TwosComplement.{signed, bits}
 use Rattle.numbers.specs.Octets.{bigEndian, octets, part}
 use Rattle.refusals.specs.Numbers.{packet-length-wrong, buffer-too-short, field-too-large}
-use Rattle.refusals.specs.Tests.{Tests, _if_else_, otherwise, number, answer, kept, pass}
+use Rattle.ordered_tests.specs.Tests.{Tests, _if_else_, otherwise, number, answer, kept, pass}
 use Rattle.timestamp.specs.Timestamp.{timestamp}
 use Rattle.packet.specs.declared.Fields.{Fields}
 use Rattle.packet.specs.declared.FieldsAnswer.{FieldsAnswer}

@@ -6,7 +6,7 @@ use mathlib.Core.List.{List, _++_}
 use lib.ListN.{length, take, drop}
 use Rattle.numbers.specs.TwosComplement.{Fits}
 use Rattle.numbers.specs.Octets.{AreOctets}
-use Rattle.refusals.specs.Tests.{number}
+use Rattle.ordered_tests.specs.Tests.{number}
 use Rattle.packet.specs.declared.Fields.{Fields}
 use Rattle.packet.specs.declared.FieldsAnswer.{FieldsAnswer}
 use Rattle.packet.specs.Packet.{readTests, readAnswer, numberIn, tooLarge, writeNumber, written}

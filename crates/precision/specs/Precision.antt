@@ -4,7 +4,7 @@ use mathlib.Core.Bool.{cond, _||_}
 use lib.Dec.{eqb, leb, ltb}
 use lib.IntN.{ℤ, pos, _-ℤ_}
 use Rattle.refusals.specs.Numbers.{tick-out-of-range}
-use Rattle.refusals.specs.Tests.{_if_else_, otherwise, answer}
+use Rattle.ordered_tests.specs.Tests.{_if_else_, otherwise, answer}
 use Rattle.precision.specs.declared.PrecisionAnswer.{PrecisionAnswer}
 use Rattle.precision.specs.declared.PrecisionAnswer.the-variants.{Refused, Precision}
 

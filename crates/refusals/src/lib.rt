@@ -1,7 +1,6 @@
 // The numbers that a caller may see. Each has one name here and the same name in specs/Numbers.antt; `numbers` ties the two.
 ghost use mathlib.Core.Path.{_≡_};
 ghost use Rattle.refusals.specs.Numbers.{numbers};
-ghost use Rattle.refusals.specs.Tests.{between, orElse};
 
 // Buffer under 48 octets.
 pub const BUFFER_TOO_SHORT: u8 = 1;
@@ -149,22 +148,4 @@ pub fn numbers() -> [u8; 35]
         ROOT_DISPERSION_TOO_LARGE,
         LINE_MALFORMED,
     ]
-}
-
-// Tests in order are written a line a test, `let n = or_else(n, test, NUMBER);`, from 0 on: the first that holds gives its number. Every test is
-// evaluated, so each must be total.
-pub fn or_else(sofar: u8, test: bool, number: u8) -> u8
-    ensures { λ r. ⌜ r ≡ orElse sofar test number ⌝ }
-{
-    if sofar != 0 {
-        return sofar;
-    }
-    if test { number } else { 0 }
-}
-
-// Low to high, both included.
-pub fn between(low: u8, high: u8, n: u8) -> bool
-    ensures { λ r. ⌜ r ≡ between low high n ⌝ }
-{
-    (low <= n) & (n <= high)
 }

@@ -6,7 +6,7 @@ use lib.Dec.{eqb, leb, ltb}
 use lib.IntN.{ℤ, pos}
 use lib.Signed.{leZ}
 use Rattle.refusals.specs.Numbers.{own-clock-zero, server-unsynchronised, stratum-too-high, server-timestamp-zero, root-delay-out-of-range, root-dispersion-too-large}
-use Rattle.refusals.specs.Tests.{Tests, _if_else_}
+use Rattle.ordered_tests.specs.Tests.{Tests, _if_else_}
 use Rattle.timestamp.specs.declared.Timestamp.{Timestamp}
 use Rattle.timestamp.specs.Timestamp.{isZero, negative}
 use Rattle.packet.specs.declared.Fields.{Fields}

@@ -1,9 +1,8 @@
 // The sanity checks of a server's reply that need no record of the request (RFC 4330, section 5).
 ghost use mathlib.Core.Path.{_≡_};
-ghost use Rattle.refusals.specs.Tests.{number, pass};
+ghost use Rattle.ordered_tests.specs.Tests.{number, pass};
 ghost use Rattle.sanity.specs.Sanity.{useTests, rootDelayOutOfRange, rootDispersionTooLarge, rootTests};
 use packet::Fields;
-use refusals::or_else;
 use timestamp::Timestamp;
 
 // Root delay and root dispersion have 16 fraction bits, so that 65536 is one second.
@@ -23,15 +22,25 @@ fn root_dispersion_too_large(dispersion: u32) -> bool
 pub fn first_refusal(f: Fields, t4: Timestamp) -> u8
     ensures { λ r. ⌜ r ≡ number (useTests f t4 (rootTests f pass)) ⌝ }
 {
+    if t4.is_zero() {
+        return refusals::OWN_CLOCK_ZERO;
+    }
+    if f.leap == 3 {
+        return refusals::SERVER_UNSYNCHRONISED;
+    }
+    if 15 < f.stratum {
+        return refusals::STRATUM_TOO_HIGH;
+    }
     let receive = f.receive;
     let transmit = f.transmit;
-    let zero = receive.is_zero() | transmit.is_zero();
-    let delay = root_delay_out_of_range(f.root_delay);
-    let dispersion = root_dispersion_too_large(f.root_dispersion);
-    let n = or_else(0, t4.is_zero(), refusals::OWN_CLOCK_ZERO);
-    let n = or_else(n, f.leap == 3, refusals::SERVER_UNSYNCHRONISED);
-    let n = or_else(n, 15 < f.stratum, refusals::STRATUM_TOO_HIGH);
-    let n = or_else(n, zero, refusals::SERVER_TIMESTAMP_ZERO);
-    let n = or_else(n, delay, refusals::ROOT_DELAY_OUT_OF_RANGE);
-    or_else(n, dispersion, refusals::ROOT_DISPERSION_TOO_LARGE)
+    if receive.is_zero() | transmit.is_zero() {
+        return refusals::SERVER_TIMESTAMP_ZERO;
+    }
+    if root_delay_out_of_range(f.root_delay) {
+        return refusals::ROOT_DELAY_OUT_OF_RANGE;
+    }
+    if root_dispersion_too_large(f.root_dispersion) {
+        return refusals::ROOT_DISPERSION_TOO_LARGE;
+    }
+    0
 }

@@ -7,7 +7,7 @@ use lib.IntN.{pos, negℤ}
 use lib.ListN.{drop}
 use lib.Signed.{ltZ}
 use Rattle.refusals.specs.Numbers.{buffer-too-short, packet-length-wrong, request-mode-wrong, request-version-unsupported, settings-out-of-range, server-timestamp-zero, answered-before-received}
-use Rattle.refusals.specs.Tests.{Tests, _if_else_, otherwise, answer, kept, between}
+use Rattle.ordered_tests.specs.Tests.{Tests, _if_else_, otherwise, answer, kept, between}
 use Rattle.timestamp.specs.declared.Timestamp.{Timestamp}
 use Rattle.timestamp.specs.Timestamp.{constants, isZero, _⊖_, negative}
 use Rattle.packet.specs.declared.Fields.{Fields}

@@ -3,13 +3,12 @@ ghost use mathlib.Core.Path.{_≡_};
 ghost use Prim.Native.Nat.{_≤_};
 ghost use mathlib.Core.List.{_++_};
 ghost use lib.ListN.{length, drop};
-ghost use Rattle.refusals.specs.Tests.{number, answer, kept};
-ghost use Rattle.packet.specs.Packet.{octetsOf};
-ghost use Rattle.server.specs.Server.{outOfRange, requestTests, replyWith, replyFields, replied, repliedBuffer};
+ghost use Rattle.ordered_tests.specs.Tests.{number, answer, kept};
+ghost use Rattle.packet.specs.Packet.{octetsOf, written};
+ghost use Rattle.server.specs.Server.{outOfRange, requestTests, replyWith, synchronisedFields, unsynchronisedFields, replyFields, replied, repliedBuffer};
+use ordered_tests::between;
 use packet::Fields;
 use packet::FieldsAnswer;
-use refusals::between;
-use refusals::or_else;
 use timestamp::Timestamp;
 
 // `leap` is LI; `identifier` and `reference` say from where and when the server's clock was last set.
@@ -36,24 +35,22 @@ fn out_of_range(settings: Settings) -> bool
 fn first_refusal(settings: Settings, request: Fields, t2: Timestamp, t3: Timestamp) -> u8
     ensures { λ r. ⌜ r ≡ number (requestTests settings request t2 t3) ⌝ }
 {
-    let synchronised = settings.synchronised;
-    let n = or_else(0, request.mode != 3, refusals::REQUEST_MODE_WRONG);
-    let n = or_else(
-        n,
-        !between(1, 4, request.version),
-        refusals::REQUEST_VERSION_UNSUPPORTED,
-    );
-    let n = or_else(n, out_of_range(settings), refusals::SETTINGS_OUT_OF_RANGE);
-    let n = or_else(
-        n,
-        synchronised & (t2.is_zero() | t3.is_zero()),
-        refusals::SERVER_TIMESTAMP_ZERO,
-    );
-    or_else(
-        n,
-        synchronised & (t3.minus(t2) < 0),
-        refusals::ANSWERED_BEFORE_RECEIVED,
-    )
+    if request.mode != 3 {
+        return refusals::REQUEST_MODE_WRONG;
+    }
+    if !between(1, 4, request.version) {
+        return refusals::REQUEST_VERSION_UNSUPPORTED;
+    }
+    if out_of_range(settings) {
+        return refusals::SETTINGS_OUT_OF_RANGE;
+    }
+    if settings.synchronised & (t2.is_zero() | t3.is_zero()) {
+        return refusals::SERVER_TIMESTAMP_ZERO;
+    }
+    if settings.synchronised & (t3.minus(t2) < 0) {
+        return refusals::ANSWERED_BEFORE_RECEIVED;
+    }
+    0
 }
 
 // The reply's fields. Those that depend on whether the server is synchronised are given.
@@ -87,32 +84,46 @@ fn reply_with(
     }
 }
 
-fn reply_fields(settings: Settings, request: Fields, t2: Timestamp, t3: Timestamp) -> Fields
-    ensures { λ r. ⌜ r ≡ replyFields settings request t2 t3 ⌝ }
+fn synchronised_fields(settings: Settings, request: Fields, t2: Timestamp, t3: Timestamp) -> Fields
+    ensures { λ r. ⌜ r ≡ synchronisedFields settings request t2 t3 ⌝ }
 {
-    let synchronised = settings.synchronised;
-    if synchronised {
-        return reply_with(
-            settings,
-            request,
-            settings.leap,
-            1,
-            settings.identifier,
-            settings.reference,
-            t2,
-            t3,
-        );
-    }
+    reply_with(
+        settings,
+        request,
+        settings.leap,
+        1,
+        settings.identifier,
+        settings.reference,
+        t2,
+        t3,
+    )
+}
+
+fn unsynchronised_fields(settings: Settings, request: Fields) -> Fields
+    ensures { λ r. ⌜ r ≡ unsynchronisedFields settings request ⌝ }
+{
     reply_with(
         settings,
         request,
         3,
         0,
-        kiss::code(b"INIT"),
+        kiss::INIT,
         Timestamp::ZERO,
         Timestamp::ZERO,
         Timestamp::ZERO,
     )
+}
+
+// Writes the reply. A write in each of the two cases: each compiles to stores of what it knows.
+fn write_reply(settings: Settings, request: Fields, t2: Timestamp, t3: Timestamp, buffer: &mut [u8])
+    ensures { λ _. ⌜ now (buffer .exit) ≡ written (now (buffer .entry)) (replyFields settings request t2 t3) ⌝ }
+{
+    let synchronised = settings.synchronised;
+    if synchronised {
+        packet::write(buffer, synchronised_fields(settings, request, t2, t3));
+    } else {
+        packet::write(buffer, unsynchronised_fields(settings, request));
+    }
 }
 
 // Replies to a request with these fields.
@@ -132,7 +143,7 @@ fn reply_to(
         return ReplyAnswer::Refused(number);
     }
     // Not refused: the buffer is long enough, and no field is too large.
-    packet::write(buffer, reply_fields(settings, request, t2, t3));
+    write_reply(settings, request, t2, t3, buffer);
     ReplyAnswer::Written
 }
 

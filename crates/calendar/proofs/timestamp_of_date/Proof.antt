@@ -6,7 +6,7 @@ use native.Mathlib.Omega.{arith}
 use borrow.Author.Needs.{needs}
 use borrow.Author.Tests.{not-true, not-false}
 use Rattle.refusals.specs.Numbers.{timestamp-zero}
-use Rattle.refusals.specs.Tests.{_if_else_, otherwise, answer}
+use Rattle.ordered_tests.specs.Tests.{_if_else_, otherwise, answer}
 use Rattle.timestamp.specs.declared.Timestamp.{Timestamp}
 use Rattle.timestamp.specs.Timestamp.{fromSeconds, isZero}
 use Rattle.calendar.specs.Dates.{exists, secondsTo}

@@ -4,8 +4,8 @@ use mir.Syntax.{w64}
 use mir.Val.{SFits}
 use mir.Facts.{toZ-ofZ}
 use borrow.Author.Needs.{needs}
-use Rattle.refusals.specs.Tests.{Tests, number}
-use Rattle.refusals.proofs.Tests.{by-number, by-passing}
+use Rattle.ordered_tests.specs.Tests.{Tests, number}
+use Rattle.ordered_tests.proofs.Tests.{by-number, by-passing}
 use Rattle.offset.specs.Offset.{halves, offsetTests}
 use Rattle.offset.specs.declared.OffsetAnswer.{OffsetAnswer}
 use Rattle.offset.specs.declared.OffsetAnswer.the-variants.{Refused}

@@ -1,0 +1,45 @@
+// Give up: no reply has come.
+ghost use mathlib.Core.Path.{_≡_};
+ghost use Rattle.ordered_tests.specs.Tests.{number};
+ghost use Rattle.client.specs.GiveUp.{giveUpTests, gaveUp};
+use crate::CallAnswer;
+use crate::Client;
+use crate::Next;
+use crate::Phase;
+use poll::too_soon;
+use timestamp::Timestamp;
+
+impl Client {
+    fn give_up_number(self, uptime: u64) -> u8
+        ensures { λ r. ⌜ r ≡ number (giveUpTests self uptime) ⌝ }
+    {
+        let phase = self.phase;
+        if self.illegal() {
+            return refusals::RECORD_NOT_LEGAL;
+        }
+        if !phase.is_waiting() {
+            return refusals::NOT_WAITING;
+        }
+        if too_soon(self.uptime, Timestamp::LIMIT_SECONDS, uptime) {
+            return refusals::GAVE_UP_TOO_SOON;
+        }
+        0
+    }
+
+    // Give up: the request has timed out, and the poll interval is doubled (RFC 4330, section 10).
+    pub fn give_up(self, uptime: u64) -> Next
+        ensures { λ r. ⌜ r ≡ gaveUp self uptime ⌝ }
+    {
+        let n = self.give_up_number(uptime);
+        if n != 0 {
+            return Next {
+                answer: CallAnswer::Refused(n),
+                client: self,
+            };
+        }
+        Next {
+            answer: CallAnswer::Done,
+            client: self.without(Phase::Idle, poll::backed_off(self.exponent)),
+        }
+    }
+}

@@ -1,0 +1,95 @@
+// The phases, the fresh record, and which records are legal.
+ghost use mathlib.Core.Path.{_≡_};
+ghost use Rattle.client.specs.Record.{isIdle, isWaiting, isStopped, fresh, isFresh, illegal, without};
+use crate::Client;
+use crate::Phase;
+use ordered_tests::between;
+use timestamp::Timestamp;
+
+impl Phase {
+    pub(crate) fn is_idle(self) -> bool
+        ensures { λ r. ⌜ r ≡ isIdle self ⌝ }
+    {
+        match self {
+            Phase::Idle => true,
+            Phase::Waiting => false,
+            Phase::Stopped => false,
+        }
+    }
+
+    pub(crate) fn is_waiting(self) -> bool
+        ensures { λ r. ⌜ r ≡ isWaiting self ⌝ }
+    {
+        match self {
+            Phase::Idle => false,
+            Phase::Waiting => true,
+            Phase::Stopped => false,
+        }
+    }
+
+    pub(crate) fn is_stopped(self) -> bool
+        ensures { λ r. ⌜ r ≡ isStopped self ⌝ }
+    {
+        match self {
+            Phase::Idle => false,
+            Phase::Waiting => false,
+            Phase::Stopped => true,
+        }
+    }
+}
+
+impl Client {
+    // The record of a client that has never asked.
+    pub fn fresh() -> Client
+        ensures { λ r. ⌜ r ≡ fresh ⌝ }
+    {
+        Client {
+            phase: Phase::Idle,
+            transmit: Timestamp::ZERO,
+            version: 0,
+            asked: false,
+            uptime: 0,
+            exponent: 6,
+        }
+    }
+
+    pub(crate) fn is_fresh(self) -> bool
+        ensures { λ r. ⌜ r ≡ isFresh self ⌝ }
+    {
+        let phase = self.phase;
+        let transmit = self.transmit;
+        phase.is_idle()
+            & transmit.is_zero()
+            & (self.version == 0)
+            & !self.asked
+            & (self.uptime == 0)
+            & (self.exponent == 6)
+    }
+
+    pub(crate) fn illegal(self) -> bool
+        ensures { λ r. ⌜ r ≡ illegal self ⌝ }
+    {
+        let phase = self.phase;
+        let waiting = phase.is_waiting();
+        let transmit = self.transmit;
+        let zero = transmit.is_zero();
+        !between(6, 14, self.exponent)
+            | (waiting & (zero | !between(1, 4, self.version)))
+            | (!waiting & !(zero & (self.version == 0)))
+            | (!self.asked & !self.is_fresh())
+    }
+
+    // The record without a request.
+    pub(crate) fn without(self, phase: Phase, exponent: u8) -> Client
+        ensures { λ r. ⌜ r ≡ without self phase exponent ⌝ }
+    {
+        Client {
+            phase,
+            transmit: Timestamp::ZERO,
+            version: 0,
+            asked: self.asked,
+            uptime: self.uptime,
+            exponent,
+        }
+    }
+}

@@ -1,0 +1,32 @@
+-- `reply::first_mismatch` meets its contract: each return is at its row of the table. Assumes nothing.
+use mathlib.Core.Path.{refl}
+use borrow.Author.Tests.{eq-eqb, ne-eqb}
+use Rattle.ordered_tests.specs.Tests.{Tests, pass}
+use Rattle.ordered_tests.proofs.Tests.{At, starts, goes-on, returned}
+use Rattle.reply.specs.Reply.{answersTests}
+use Rattle.reply.proofs.first_mismatch.Statement.{statement}
+use Rattle.reply.proofs.first_mismatch.Tie as tie
+
+abbrev table : tie.Start → Tests (Unit {0})
+table s = answersTests (s .args .transmit) (s .args .version) (s .args .f) pass
+
+returns : tie.Need-returns
+returns c = returned (starts {t = table (c .before .before .before)}) (rw (ne-eqb _ _ (c .if1 .taken)))
+
+at-1 : (c : tie.Else1) → At 1 (table (c .before .before .before))
+at-1 c = goes-on starts (rw (eq-eqb _ _ (c .if1 .left)))
+
+returns-2 : tie.Need-returns-2
+returns-2 c = returned (at-1 (c .before .before)) (rw (ne-eqb _ _ (c .if2 .taken)))
+
+at-2 : (c : tie.Else2) → At 2 (table (c .before .before .before .before .before))
+at-2 c = goes-on (at-1 (c .before .before)) (rw (eq-eqb _ _ (c .if2 .left)))
+
+returns-3 : tie.Need-returns-3
+returns-3 c = returned (at-2 (c .before .before)) (rw (ne-eqb _ _ (c .if3 .taken)))
+
+returns-4 : tie.Need-returns-4
+returns-4 c = returned (goes-on (at-2 (c .before .before)) (rw (eq-eqb _ _ (c .if3 .left)))) refl
+
+pub first-mismatch-spec : {M : Type 1} → statement M
+first-mismatch-spec = tie.close (tie.spec returns returns-2 returns-3 returns-4)
