@@ -5,7 +5,7 @@ use mathlib.Core.Logic.{_⊎_, inl, inr}
 use native.Mathlib.Omega.{arith}
 use lib.IntN.{ℤ, natAbs, _+ℤ_}
 use Rattle.refusals.specs.Numbers.{entry-too-large, debt-too-large}
-use Rattle.refusals.specs.Tests.{refused}
+use Rattle.ordered_tests.specs.Tests.{refused}
 use Rattle.offset.proofs.Halving.{halving}
 use Rattle.client.specs.declared.Client.{Client}
 use Rattle.client.specs.Calls as calls

@@ -8,7 +8,7 @@ use native.Mathlib.Omega.{arith}
 use lib.Dec.{T, leb, ltb, eqb}
 use lib.ListN.{length}
 use mir.Facts.{ltb-no, no-ltb, leb-no, no-leb, leb-yes, yes-leb, and-yes, yes-and, or-yes, or-no, T-not-not, eqb-yes, yes-eqb}
-use Rattle.refusals.specs.Tests.{between}
+use Rattle.ordered_tests.specs.Tests.{between}
 use Rattle.timestamp.specs.declared.Timestamp.{Timestamp}
 use Rattle.timestamp.specs.Timestamp.{timestamp, isZero}
 use Rattle.packet.specs.Packet.{wrongLength}

@@ -3,17 +3,17 @@
 use Prim.Native.Nat.{ℕ}
 use mathlib.Core.Path.{_≡_, refl, sym, ap, subst, _∙_}
 use mathlib.Core.Logic.{_≢_, _⊎_, inl, inr}
-use mathlib.Core.Bool.{Bool, true, false, _&&_}
+use mathlib.Core.Bool.{Bool, true, false, not, _&&_}
 use native.Mathlib.Omega.{arith}
 use lib.Dec.{T}
 use lib.IntN.{pos}
 use lib.ListN.{length, replicate, length-replicate}
 use mir.Facts.{and-yes, yes-and}
 use Rattle.refusals.specs.Numbers.{listed}
-use Rattle.refusals.specs.Tests.{Tests, _if_else_, _when_else_, otherwise, Given, refused, answered}
-use Rattle.refusals.specs.Tests as tests
+use Rattle.ordered_tests.specs.Tests.{Tests, _if_else_, _when_else_, otherwise, Given, refused, answered}
+use Rattle.ordered_tests.specs.Tests as tests
 use Rattle.demands.specs.Form.{Kind, refusal, acceptance, kiss, Shown, refusedBy, Rules, _unless_then_, _provided_else_, does, refuses, Gives, Form, Implementation, outcome, Refuses, Answers}
-use Rattle.demands.proofs.Facts.{WhereTrue, WhereFalse}
+use Rattle.demands.proofs.Facts.{WhereTrue, WhereFalse, contradiction}
 use Rattle.demands.specs.Wrapper.{Wrapper, mapRules, rulesOf, wrapped, over, through}
 
 -- ---- rules give one thing
@@ -37,6 +37,10 @@ does-it {F} a i g p = a .done i ∙ ap (outcome F i) (one (F .rules i) (a .given
 -- and two programs that do what the rules give do the same
 pub unique : {F : Form} {f g : Implementation F} → Answers F f → Answers F g → (i : F .Input) → f i ≡ g i
 unique a b i = does-it a i (b .given i) (b .by-rules i) ∙ sym (b .done i)
+
+-- so one of which something else can be seen at some input does not
+pub differs : {F : Form} {f g : Implementation F} → Answers F g → (i : F .Input) (see : F .Outcome → Bool) → T (see (f i)) → T (not (see (g i))) → Answers F f → ⊥
+differs {F} {f} a i see seen other b = contradiction (see (f i)) seen (subst (λ o. T (not (see o))) (sym (unique b a i)) other)
 
 -- ---- the facts on the way to an outcome
 

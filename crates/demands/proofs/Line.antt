@@ -9,7 +9,7 @@ use borrow.Author.Tests.{eqb-true}
 use lib.Dec.{T, eqb}
 use mir.Facts.{eqb-no}
 use Rattle.refusals.specs.Numbers.{listed, line-malformed}
-use Rattle.refusals.specs.Tests.{Given, refused, answered}
+use Rattle.ordered_tests.specs.Tests.{Given, refused, answered}
 use Rattle.client.specs.declared.Client.{Client}
 use Rattle.client.specs.Calls as calls
 use Rattle.client.specs.Calls.{Call, ask, arrival, giveUp}

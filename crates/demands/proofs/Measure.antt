@@ -7,7 +7,7 @@ use lib.IntN.{ℤ, pos, negℤ}
 use lib.Signed.{ltZ, _≤ℤ_, _<ℤ_}
 use Rattle.numbers.proofs.Whole.{whole}
 use Rattle.refusals.specs.Numbers.{arrived-before-sent, arrived-too-late, answered-before-received, delay-negative, difference-out-of-range}
-use Rattle.refusals.specs.Tests.{Tests, _if_else_, answerOf}
+use Rattle.ordered_tests.specs.Tests.{Tests, _if_else_, answerOf}
 use Rattle.timestamp.specs.Timestamp.{constants, _⊖_, negative}
 use Rattle.offset.specs.declared.OffsetAnswer.{OffsetAnswer}
 use Rattle.offset.specs.Offset.{outOfRange, offsetTests, measured}

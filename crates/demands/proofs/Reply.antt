@@ -5,7 +5,7 @@ use Prim.Native.Nat.{_≤_}
 use native.Mathlib.Omega.{arith}
 use lib.IntN.{pos, negℤ}
 use lib.ListN.{length, drop}
-use Rattle.refusals.specs.Tests.{Tests, Given, answerOf, keptOf}
+use Rattle.ordered_tests.specs.Tests.{Tests, Given, answerOf, keptOf}
 use Rattle.timestamp.specs.Timestamp.{_⊖_}
 use Rattle.packet.specs.Packet.{fieldsOf, octetsOf}
 use Rattle.server.specs.declared.Settings.{Settings}

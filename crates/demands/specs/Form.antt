@@ -7,7 +7,7 @@ use lib.Dec.{T}
 use lib.IntN.{ℤ, pos}
 use lib.ListN.{length, replicate}
 use Rattle.refusals.specs.Numbers as numbers
-use Rattle.refusals.specs.Tests.{Given, refused, answered}
+use Rattle.ordered_tests.specs.Tests.{Given, refused, answered}
 
 -- ---- what the caller is shown (document 01, "Numbers a caller may see")
 

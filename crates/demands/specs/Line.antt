@@ -4,7 +4,7 @@ use mathlib.Core.Bool.{cond}
 use mathlib.Core.List.{List, [], _∷_}
 use lib.Dec.{eqb}
 use Rattle.refusals.specs.Numbers.{line-malformed}
-use Rattle.refusals.specs.Tests.{Given, refused, answered}
+use Rattle.ordered_tests.specs.Tests.{Given, refused, answered}
 use Rattle.client.specs.declared.Client.{Client}
 use Rattle.client.specs.Calls.{Call}
 use Rattle.lines.specs.Decoding.{decode}

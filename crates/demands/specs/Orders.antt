@@ -4,7 +4,7 @@ use Prim.Native.Nat.{ℕ}
 use mathlib.Core.Path.{_≡_}
 use mathlib.Core.List.{List, [], _∷_, _++_}
 use lib.ListN.{length}
-use Rattle.refusals.specs.Tests.{Tests, _if_else_, _when_else_, otherwise}
+use Rattle.ordered_tests.specs.Tests.{Tests, _if_else_, _when_else_, otherwise}
 use Rattle.timestamp.specs.declared.Timestamp.{Timestamp}
 use Rattle.timestamp.specs.Timestamp.{_⊖_}
 use Rattle.offset.specs.Offset.{offsetTests}

@@ -1,6 +1,6 @@
 -- A call around another: what it is given is read first, and refused by a number of its own or handed on to the inner call, whose outcome is then shown.
 use Prim.Native.Nat.{ℕ}
-use Rattle.refusals.specs.Tests.{Given, refused, answered}
+use Rattle.ordered_tests.specs.Tests.{Given, refused, answered}
 use Rattle.demands.specs.Form.{Shown, Rules, _unless_then_, _provided_else_, does, refuses, Form, Implementation}
 
 pub record Wrapper (F : Form) : Type 1 where

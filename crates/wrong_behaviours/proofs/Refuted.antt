@@ -1,0 +1,237 @@
+-- Each wrong program fails a demand.
+use Prim.Native.Nat.{ℕ, _^_}
+use mathlib.Core.Path.{_≡_, refl, sym, ap, subst, _∙_}
+use mathlib.Core.Logic.{_≢_}
+use mathlib.Core.Bool.{Bool, true, false, not, _&&_}
+use mathlib.Core.List.{List, [], _∷_}
+use native.Mathlib.Omega.{arith}
+use lib.Dec.{T, eqb, leb}
+use lib.ListN.{getD, replicate}
+use lib.IntN.{ℤ, pos, negsuc, natAbs, _+ℤ_, _-ℤ_}
+use lib.Signed.{leZ, leZ-yes, _≤ℤ_}
+use mir.Facts.{and-yes}
+use Rattle.numbers.specs.Modulo.{_modulo_}
+use Rattle.numbers.specs.TwosComplement.{signed, bits, difference}
+use Rattle.numbers.specs.Octets.{octets}
+use Rattle.numbers.proofs.Whole.{whole, size, minus}
+use Rattle.refusals.specs.Numbers.{line-malformed}
+use Rattle.timestamp.specs.Timestamp.{timestamp, fromSeconds, _⊖_}
+use Rattle.offset.specs.Offset as offset
+use Rattle.offset.specs.Offset.{floorHalf, halfOf, offsetTests}
+use Rattle.offset.specs.Halving.{twice}
+use Rattle.packet.specs.declared.FieldsAnswer.{FieldsAnswer}
+use Rattle.packet.specs.Packet.{fieldsOf, octetsOf}
+use Rattle.calendar.specs.Gregorian.{leapDays, yearDays, monthDays, before, last}
+use Rattle.calendar.specs.Dates as dates
+use Rattle.calendar.specs.Dates.{date, daysTo, secondsTo, dateAt, yearOn, dayOfYear, monthOn, dayOfMonth}
+use Rattle.calendar.specs.Calendar.{dateOf, dateIn, secondsAt, start1900, start2036, windowStart, windowEnd, inWindow, eraSeconds, timestampOf, numberInTimestamp}
+use Rattle.precision.specs.Precision.{least, precisionOf, precisionIn}
+use Rattle.poll.specs.Poll.{tooSoon}
+use Rattle.client.specs.declared.Client.{Client}
+use Rattle.client.specs.Record.{fresh, isWaiting, illegal}
+use Rattle.client.specs.Ask.{askTests, asked, askedBuffer}
+use Rattle.client.specs.Ask as requests
+use Rattle.client.specs.Arrival.{arrived}
+use Rattle.client.specs.Arrival as arrivals
+use Rattle.client.specs.GiveUp.{gaveUp, giveUpTests}
+use Rattle.client.specs.Calls.{Call, ask, arrival, giveUp, Result, refused, done, accepted, kiss, Outcome}
+use Rattle.server.specs.declared.ReplyAnswer.{ReplyAnswer}
+use Rattle.server.specs.Server.{requestTests, replyFields}
+use Rattle.server.specs.Server as server
+use Rattle.ledger.specs.declared.Ledger.{Ledger}
+use Rattle.ledger.specs.Ledger.{tooMuch, tooLarge, entryTests, payment, tickTests, numberInEntry}
+use Rattle.lines.specs.Lines.{digitOf}
+use Rattle.frames.specs.Frames.{Reply, callOf}
+use Rattle.demands.specs.Form.{refusal, acceptance, Implementation}
+use Rattle.demands.specs.Client as clients
+use Rattle.demands.specs.Reply.{Request}
+use Rattle.demands.specs.Behaviour.{Behaviour, client, reply, form, ours}
+use Rattle.demands.specs.Behaviour as behaviour
+use Rattle.demands.specs.Demand3.{Exchange, reading, T2, T3, T4, Orderly, theAsk, theArrival}
+use Rattle.demands.specs.Witnesses.{replay, settings, buffer, run}
+use Rattle.demands.proofs.Facts.{contradiction}
+use Rattle.demands.proofs.Form.{acceptance-shown, differs, unique}
+use Rattle.demands.proofs.Each.{each}
+use Rattle.demands.proofs.Witnesses.{orderly}
+use Rattle.wrong_behaviours.specs.Client.{refusing, alwaysWriting, takingNone, stayingWaiting, spending, kissFirst, unsignedTimes, rootUntested, negativeDelayUntested, dispersionSigned, rootSwapped, rootAfter15, fixing, measuring, zeroOffset, hugeDelay, halfLost, largeHalf, towardZero, halvedApart}
+use Rattle.wrong_behaviours.specs.Others.{neverReplying, wrongOriginate, replyingAnyway, readingNothing, writingNothing, fourthYearDates, fourthYearTimestamps, roundedDown, takingEntries, payingAll, refusingLines, droppingDigits, startingAfresh}
+use Rattle.wrong_behaviours.specs.Refuted.{withClient, withServer, Fails1, Fails2, Fails3, Refuted}
+use Rattle.wrong_behaviours.proofs.Exchanges.{slowBack, slowOut, bothOdd, otherServer, waiting, request, replied, with-root, tells-other, near, inBound, concluded, in-bound}
+
+-- no result is in the bound of two servers that are 2000 units apart
+not-both : (r : Result) → T (inBound slowBack r) → T (inBound otherServer r) → ⊥
+unfolding reading _modulo_ _⊖_ difference signed
+not-both (refused n) s t = s
+not-both done s t = s
+not-both (accepted o h δ) s t =
+    let x = twice o +ℤ pos h in
+    let (low, rest) = and-yes (near slowBack o h δ) (leZ δ (pos 7) && leb h 1) s in
+    let (high, _) = and-yes (near otherServer o h δ) (leZ δ (pos 7) && leb h 1) t in
+    let (short, _) = and-yes (leZ δ (pos 7)) (leb h 1) rest in
+    let l : pos (natAbs (x -ℤ negsuc 1999)) ≤ℤ δ = leZ-yes low in
+    let u : pos (natAbs (x -ℤ pos 2000)) ≤ℤ δ = leZ-yes high in
+    let m : δ ≤ℤ pos 7 = leZ-yes short in
+    omega (arith, whole, size (x -ℤ negsuc 1999), size (x -ℤ pos 2000), minus x (negsuc 1999), minus x (pos 2000))
+not-both (kiss code row) s t = s
+
+-- ---- the calendar, the precision octet and the replay
+
+-- 1 March 2100
+every-fourth-year : Fails2 behaviour.date fourthYearDates
+unfolding dateOf secondsTo daysTo dateAt yearOn dayOfYear monthOn dayOfMonth leapDays yearDays monthDays before last secondsAt start2036
+every-fourth-year = differs (each behaviour.date .answers) (fromSeconds 2021563904 0) (λ o. eqb (dateIn o .month) 2) tt tt
+
+-- 29 February 2100
+february-2100 : Fails2 behaviour.timestamp fourthYearTimestamps
+unfolding timestampOf dates.exists secondsTo daysTo leapDays yearDays monthDays before inWindow windowStart windowEnd eraSeconds start1900 start2036
+february-2100 = differs (each behaviour.timestamp .answers) (date 2100 2 29 0 0 0 0) (λ o. eqb (numberInTimestamp o) 0) tt tt
+
+-- a tick of 3 units, of which the smallest power of two not below is 4
+rounded-down : Fails2 behaviour.precision roundedDown
+unfolding precisionOf least
+rounded-down = differs (each behaviour.precision .answers) 3 (λ o. leZ (precisionIn o) (negsuc 30)) tt tt
+
+-- A3 and so many digits 0, of which 32 make a give-up
+abbrev giveUpLine : ℕ → List ℕ
+giveUpLine zeros = 65 ∷ 51 ∷ replicate zeros 48
+
+abbrev malformed : Reply → Bool
+malformed r = eqb (getD (r .octets) 0 0) line-malformed
+
+refuses-every-line : Fails2 behaviour.line refusingLines
+unfolding digitOf callOf gaveUp giveUpTests illegal
+refuses-every-line = differs (each behaviour.line .answers) (fresh, giveUpLine 32) malformed tt tt
+
+accepts-odd-digits : Fails2 behaviour.line droppingDigits
+unfolding digitOf callOf gaveUp giveUpTests illegal
+accepts-odd-digits = differs (each behaviour.line .answers) (fresh, giveUpLine 33) (λ r. not (malformed r)) tt tt
+
+-- an empty line, to a client that waits
+starts-afresh : (c : Client) → T (isWaiting (c .phase)) → Fails1 behaviour.line startingAfresh
+unfolding callOf
+starts-afresh c waits demand = subst (λ (r : Reply). T (isWaiting (r .client .phase))) (sym (demand .unchanged (c, []) refl)) waits
+
+-- ---- the ledger
+
+abbrev owing : ℤ → Ledger
+owing debt = record { debt = debt }
+
+takes-every-entry : Fails2 behaviour.entry takingEntries
+unfolding entryTests tooMuch tooLarge
+takes-every-entry = differs (each behaviour.entry .answers) (record { ledger = owing (pos 0); offset = pos 0; half = 2 }) (λ o. eqb (numberInEntry (o .answer)) 0) tt tt
+
+pays-all : Fails2 behaviour.tick payingAll
+unfolding tickTests tooMuch payment
+pays-all = differs (each behaviour.tick .answers) (record { ledger = owing (pos 2); limit = 1 }) (λ o. leZ (o .ledger .debt) (pos 0)) tt tt
+
+-- what is seen of an answer
+abbrev is-written : ReplyAnswer → Bool
+is-written (ReplyAnswer.Refused n) = false
+is-written ReplyAnswer.Written = true
+
+abbrev has-mode : ℕ → FieldsAnswer → Bool
+has-mode m (FieldsAnswer.Refused n) = false
+has-mode m (FieldsAnswer.Fields f) = eqb (f .mode) m
+
+abbrev number : Outcome → ℕ
+number o = clients.client .shown o .number
+
+-- ---- the client and the server at an exchange: what ours tells, and what is seen of a program that differs
+
+module _ (f : Implementation clients.client) where
+  back : T (tells-other (negsuc 1003) 1 (pos 7) (f (replied slowBack))) → Fails2 client f
+  unfolding arrived arrivals.replyTests offsetTests _⊖_ difference signed _modulo_ floorHalf halfOf offset.outOfRange fieldsOf octetsOf octets requests.request illegal askTests asked askedBuffer server.replied server.repliedBuffer server.replyTests requestTests server.outOfRange replyFields reading tooSoon gaveUp giveUpTests bits
+  back seen = differs (each client .answers) (replied slowBack) (tells-other (negsuc 1003) 1 (pos 7)) seen tt
+
+  odd : T (tells-other (negsuc 1002) 0 (pos 8) (f (replied bothOdd))) → Fails2 client f
+  unfolding arrived arrivals.replyTests offsetTests _⊖_ difference signed _modulo_ floorHalf halfOf offset.outOfRange fieldsOf octetsOf octets requests.request illegal askTests asked askedBuffer server.replied server.repliedBuffer server.replyTests requestTests server.outOfRange replyFields reading tooSoon gaveUp giveUpTests bits
+  odd seen = differs (each client .answers) (replied bothOdd) (tells-other (negsuc 1002) 0 (pos 8)) seen tt
+
+  over-2036 : T (tells-other (pos 43486543872) 0 (pos 3221225472) (f (replied replay))) → Fails2 client f
+  unfolding arrived arrivals.replyTests offsetTests _⊖_ difference signed _modulo_ floorHalf halfOf offset.outOfRange fieldsOf octetsOf octets requests.request illegal askTests asked askedBuffer server.replied server.repliedBuffer server.replyTests requestTests server.outOfRange replyFields reading tooSoon gaveUp giveUpTests bits
+  over-2036 seen = differs (each client .answers) (replied replay) (tells-other (pos 43486543872) 0 (pos 3221225472)) seen tt
+
+  -- a reply with root fields out of range, of which this number is told, and not by ours
+  tells : (i : Client × Call) (n : ℕ) → T (eqb (number (f i)) n) → T (not (eqb (number (ours .does client i)) n)) → Fails2 client f
+  tells i n = differs (each client .answers) i (λ o. eqb (number o) n)
+
+  -- demand 3 of the behaviour with this client, where its ask is not refused
+  module _ (e : Exchange) (o : Orderly e) (asked : form client .shown (theAsk (withClient f) (run e)) .kind ≢ refusal) where
+    in-bound-at : T (not (inBound e (theArrival (withClient f) (run e) .result))) → Fails3 (withClient f)
+    in-bound-at other demand = contradiction (inBound e (theArrival (withClient f) (run e) .result)) (in-bound e o (withClient f) asked demand) other
+
+abbrev accepted-ask : acceptance ≢ refusal
+accepted-ask = acceptance-shown .0
+
+pub refuted : Refuted
+unfolding arrived arrivals.replyTests offsetTests _⊖_ difference signed _modulo_ floorHalf halfOf offset.outOfRange fieldsOf octetsOf octets requests.request illegal askTests asked askedBuffer server.replied server.repliedBuffer server.replyTests requestTests server.outOfRange replyFields reading tooSoon gaveUp giveUpTests bits
+refuted =
+    let at-back = orderly slowBack tt in
+    let at-out = orderly slowOut tt in
+    let at-odd = orderly bothOdd tt in
+    record {
+      refuses-everything = λ number. back (refusing number) tt;
+      refuses-by-0 = λ demand. demand .listed (fresh, giveUp (record { uptime = 0 })) refl;
+      never-asks = λ number r p. absurd (p .asked refl);
+      takes-no-reply = λ number. (back (takingNone number) tt, in-bound-at (takingNone number) slowBack at-back accepted-ask tt);
+      stays-waiting = back stayingWaiting tt;
+      offset-zero = (back (measuring zeroOffset) tt, in-bound-at (measuring zeroOffset) slowBack at-back accepted-ask tt);
+      huge-delay = (back (measuring hugeDelay) tt, in-bound-at (measuring hugeDelay) slowBack at-back accepted-ask tt);
+      half-lost = (back (measuring halfLost) tt, in-bound-at (measuring halfLost) slowBack at-back accepted-ask tt);
+      large-half = (back (measuring largeHalf) tt, in-bound-at (measuring largeHalf) slowBack at-back accepted-ask tt);
+      toward-zero = (back (measuring towardZero) tt, in-bound-at (measuring towardZero) slowOut at-out accepted-ask tt);
+      halved-apart = (odd (measuring halvedApart) tt, in-bound-at (measuring halvedApart) bothOdd at-odd accepted-ask tt);
+      -- two servers answer one request: what was fixed when asking cannot fit both
+      fixed-when-asking = λ guess. (
+        (λ demand.
+            let one = ap (λ (o : Outcome). o .result) (unique demand (each client .answers) (replied slowBack)) in
+            let other = ap (λ (o : Outcome). o .result) (unique demand (each client .answers) (replied otherServer)) in
+            subst (λ r. T (inBound slowBack r)) (sym one ∙ other) tt),
+        (λ demand.
+            not-both (guess (waiting slowBack) (T4 slowBack) (pos 7))
+            (in-bound slowBack at-back (withClient (fixing guess)) accepted-ask demand)
+            (in-bound otherServer (orderly otherServer tt) (withClient (fixing guess)) accepted-ask demand)),
+      );
+      unsigned-times = (over-2036 unsignedTimes tt, in-bound-at unsignedTimes replay (orderly replay tt) accepted-ask tt);
+      -- a packet of 48 zero octets, which a stranger sent
+      kiss-before-originate = (
+        differs (each client .answers) (waiting slowBack, arrival (record { packet = buffer; t4 = T4 slowBack })) (λ o. eqb (number o) 0) tt tt,
+        in-bound-at kissFirst slowBack at-back accepted-ask tt,
+      );
+      root-untested = tells rootUntested (with-root slowBack (negsuc 0) 0 (T4 slowBack)) 0 tt tt;
+      negative-delay-untested = tells negativeDelayUntested (with-root slowBack (negsuc 0) 0 (T4 slowBack)) 0 tt tt;
+      dispersion-signed = tells dispersionSigned (with-root slowBack (pos 0) (2 ^ 31) (T4 slowBack)) 0 tt tt;
+      root-swapped = tells rootSwapped (with-root slowBack (negsuc 0) 65536 (T4 slowBack)) 34 tt tt;
+      root-after-15 = tells rootAfter15 (with-root slowBack (negsuc 0) 0 (timestamp 4999)) 15 tt tt;
+      spends-the-request = (
+        (λ demand. subst (λ (o : Outcome). T (not (isWaiting (o .next .phase)))) (demand .unchanged (waiting slowBack, arrival (record { packet = []; t4 = T4 slowBack })) refl) tt),
+        in-bound-at spending slowBack at-back accepted-ask tt,
+      );
+      writes-when-refused = (
+        (λ demand. subst (λ (o : Outcome). T (not (eqb (getD (o .octets) 0 0) 0))) (demand .unchanged (waiting slowBack, ask (record { buffer = buffer; version = 4; clock = T4 slowBack; uptime = 9 })) refl) tt),
+        (λ demand. subst (λ (o : Outcome). T (not (eqb (getD (o .octets) 0 0) 0))) (concluded slowBack at-back (withClient alwaysWriting) accepted-ask demand .refusals .0 .is) tt),
+      );
+      never-replies = λ number. (
+        differs (each reply .answers) (request slowBack) (λ w. not (is-written (w .answer))) tt tt,
+        (λ demand. subst (λ a. T (is-written a)) (sym (concluded slowBack at-back (withServer (neverReplying number)) accepted-ask demand .answered)) tt),
+      );
+      wrong-originate = (
+        differs (each reply .answers) (request slowBack) (λ w. eqb (getD (w .octets) 31 0) 0) tt tt,
+        in-bound slowBack at-back (withServer wrongOriginate) accepted-ask,
+      );
+      -- a request of mode 0
+      replies-anyway = λ demand.
+          let x : Request = record { settings = settings; request = buffer; t2 = T2 slowBack; t3 = T3 slowBack; buffer = buffer } in
+          subst (λ w. T (not (eqb (getD (w .octets) 0 0) 0))) (demand .unchanged x refl) tt;
+      reads-nothing = differs (each behaviour.read .answers) (1 ∷ replicate 47 0) (λ o. not (has-mode 1 o)) tt tt;
+      writes-nothing = differs (each behaviour.write .answers) (record { buffer = replicate 48 1; fields = fieldsOf buffer }) (λ w. eqb (getD (w .octets) 0 0) 1) tt tt;
+      every-fourth-year = every-fourth-year;
+      february-2100 = february-2100;
+      rounded-down = rounded-down;
+      refuses-entries-by-0 = λ demand. demand .listed (record { ledger = owing (pos 0); offset = pos 0; half = 0 }) refl;
+      takes-every-entry = takes-every-entry;
+      pays-all = pays-all;
+      refuses-every-line = refuses-every-line;
+      accepts-odd-digits = accepts-odd-digits;
+      starts-afresh = starts-afresh (waiting slowBack) tt;
+    }

@@ -1,0 +1,145 @@
+-- Wrong programs for the other calls. Each does what ours does but for one thing.
+use Prim.Native.Nat.{ℕ, suc, _+_, _-_, _/_, _%_, _^_}
+use mathlib.Core.Bool.{Bool, cond, not, _&&_, _||_}
+use mathlib.Core.List.{List, [], _∷_, _++_}
+use lib.Dec.{eqb, leb, ltb}
+use lib.IntN.{pos, _+ℤ_, _-ℤ_}
+use lib.ListN.{length, take, drop, replicate}
+use Rattle.numbers.specs.Octets.{part}
+use Rattle.refusals.specs.Numbers.{packet-length-wrong, timestamp-zero, no-such-date, outside-window, tick-out-of-range, line-malformed}
+use Rattle.ordered_tests.specs.Tests.{_if_else_, otherwise, answer}
+use Rattle.timestamp.specs.declared.Timestamp.{Timestamp}
+use Rattle.timestamp.specs.Timestamp.{fromSeconds, fractionOf, isZero}
+use Rattle.packet.specs.declared.FieldsAnswer.{FieldsAnswer}
+use Rattle.packet.specs.Packet.{wrongLength, fieldsOf, octetsOf}
+use Rattle.calendar.specs.declared.Date.{Date}
+use Rattle.calendar.specs.declared.DateAnswer.{DateAnswer}
+use Rattle.calendar.specs.declared.TimestampAnswer.{TimestampAnswer}
+use Rattle.calendar.specs.Gregorian.{divides}
+use Rattle.calendar.specs.Dates as calendar
+use Rattle.calendar.specs.Dates.{exists, secondsTo, dateAt}
+use Rattle.calendar.specs.Calendar.{secondsAt, inWindow, eraSeconds}
+use Rattle.precision.specs.declared.PrecisionAnswer.{PrecisionAnswer}
+use Rattle.precision.specs.Precision.{least}
+use Rattle.client.specs.declared.Client.{Client}
+use Rattle.client.specs.Record.{fresh}
+use Rattle.server.specs.declared.ReplyAnswer.{ReplyAnswer}
+use Rattle.server.specs.Server.{replyFields}
+use Rattle.ledger.specs.declared.EntryAnswer.{EntryAnswer}
+use Rattle.ledger.specs.declared.TickAnswer.{TickAnswer}
+use Rattle.lines.specs.Decoding.{decode}
+use Rattle.frames.specs.Frames.{Parsed, call, malformed, parsed}
+use Rattle.demands.specs.Form.{Implementation}
+use Rattle.demands.specs.Reply as replies
+use Rattle.demands.specs.Reply.{Request, reply}
+use Rattle.demands.specs.Read.{read}
+use Rattle.demands.specs.Write as writing
+use Rattle.demands.specs.Write.{write}
+use Rattle.demands.specs.Date.{date}
+use Rattle.demands.specs.Timestamp.{timestamp}
+use Rattle.demands.specs.Precision.{precision}
+use Rattle.demands.specs.Entry.{entry, owed}
+use Rattle.demands.specs.Tick.{tick}
+use Rattle.demands.specs.Line as lines
+use Rattle.demands.specs.Line.{line}
+
+-- ---- the server
+
+-- it refuses everything, by whatever numbers
+abbrev pub neverReplying : (Request → ℕ) → Implementation reply
+neverReplying number x = record { answer = ReplyAnswer.Refused (number x); octets = x .buffer }
+
+-- its reply carries the request's originate timestamp in place of its transmit timestamp
+abbrev pub wrongOriginate : Implementation reply
+wrongOriginate x = replies.ours (record { settings = x .settings; request = take 40 (x .request) ++ part 24 8 (x .request) ++ drop 48 (x .request); t2 = x .t2; t3 = x .t3; buffer = x .buffer })
+
+-- it writes its reply whether it refuses or not
+abbrev pub replyingAnyway : Implementation reply
+replyingAnyway x = record {
+  answer = replies.ours x .answer;
+  octets = take (length (x .buffer)) (octetsOf (replyFields (x .settings) (fieldsOf (x .request)) (x .t2) (x .t3)) ++ drop 48 (x .buffer));
+}
+
+-- ---- the packet: reader and writer refuse what ours refuse, and do nothing
+
+abbrev pub readingNothing : Implementation read
+readingNothing p = answer FieldsAnswer.Refused (packet-length-wrong if wrongLength p else otherwise (FieldsAnswer.Fields (fieldsOf (replicate 48 0))))
+
+abbrev pub writingNothing : Implementation write
+writingNothing x = record { answer = writing.ours x .answer; octets = x .buffer }
+
+-- ---- the calendar: every fourth year is a leap year
+
+-- 29 February 2100 stands for 1 March, and from then on the date is a day behind
+abbrev march2100 : ℕ
+march2100 = secondsTo (calendar.date 2100 3 1 0 0 0 0)
+
+abbrev fourthYearDate : ℕ → ℕ → Date
+fourthYearDate s fraction =
+    cond (ltb s march2100) (dateAt s fraction)
+    (cond (ltb s (march2100 + 86400)) (calendar.date 2100 2 29 (s / 3600 % 24) (s / 60 % 60) (s % 60) fraction)
+    (dateAt (s - 86400) fraction))
+
+abbrev pub fourthYearDates : Implementation date
+fourthYearDates t = answer DateAnswer.Refused (timestamp-zero if isZero t else otherwise (DateAnswer.Date (fourthYearDate (secondsAt t) (fractionOf t))))
+
+-- there is such a date where there is one in a leap year, in a year that 4 divides
+abbrev fourthYearExists : Date → Bool
+fourthYearExists x = exists (calendar.date (cond (divides 4 (x .year)) 2000 (x .year)) (x .month) (x .day) (x .hour) (x .minute) (x .second) (x .fraction))
+
+abbrev fourthYearSeconds : Date → ℕ
+fourthYearSeconds x = secondsTo x + cond (ltb 2100 (x .year) || (eqb 2100 (x .year) && leb 3 (x .month))) 86400 0
+
+abbrev fourthYearTimestamp : Date → Timestamp
+fourthYearTimestamp x = fromSeconds (eraSeconds (fourthYearSeconds x)) (x .fraction)
+
+abbrev pub fourthYearTimestamps : Implementation timestamp
+fourthYearTimestamps x = answer TimestampAnswer.Refused (
+    no-such-date if not (fourthYearExists x) else
+    outside-window if not (inWindow (fourthYearSeconds x)) else
+    timestamp-zero if isZero (fourthYearTimestamp x) else
+    otherwise (TimestampAnswer.Timestamp (fourthYearTimestamp x)))
+
+-- ---- the precision: the greatest power of two not above the tick
+
+abbrev pub roundedDown : Implementation precision
+roundedDown tick = answer PrecisionAnswer.Refused (
+    tick-out-of-range if eqb tick 0 || ltb (2 ^ 32) tick else
+    otherwise (PrecisionAnswer.Precision (pos (least (suc tick) 33 - 1) -ℤ pos 32)))
+
+-- ---- the ledger
+
+-- it refuses every entry by 0
+abbrev pub refusingEntries : Implementation entry
+refusingEntries x = record { answer = EntryAnswer.Refused 0; ledger = x .ledger }
+
+-- it takes every entry
+abbrev pub takingEntries : Implementation entry
+takingEntries x = record { answer = EntryAnswer.Taken; ledger = record { debt = x .ledger .debt +ℤ owed x } }
+
+-- it pays the whole debt at once, whatever the limit
+abbrev pub payingAll : Implementation tick
+payingAll x = record { answer = TickAnswer.Paid (x .ledger .debt); ledger = record { debt = pos 0 } }
+
+-- ---- the replay
+
+-- it takes every line for malformed
+abbrev pub refusingLines : Implementation line
+refusingLines (c, l) = record { client = c; octets = line-malformed ∷ [] }
+
+-- it drops the last of an odd number of digits, and obeys the rest
+abbrev pairs : List ℕ → List ℕ
+pairs [] = []
+pairs (a ∷ []) = []
+pairs (a ∷ b ∷ rest) = a ∷ b ∷ pairs rest
+
+abbrev pub droppingDigits : Implementation line
+droppingDigits (c, l) = lines.ours (c, pairs l)
+
+-- it starts afresh at a malformed line
+abbrev afresh : Client → Parsed → Client
+afresh next (call x) = next
+afresh next malformed = fresh
+
+abbrev pub startingAfresh : Implementation line
+startingAfresh (c, l) = record { client = afresh (lines.ours (c, l) .client) (parsed (decode l)); octets = lines.ours (c, l) .octets }

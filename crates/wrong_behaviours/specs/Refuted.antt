@@ -1,0 +1,112 @@
+-- Which demand each wrong program fails. Demands 1 and 2 are asked of each call, so that a behaviour with such a program for one call fails them; for demand 3
+-- a behaviour is ours but for its client, whose replay then answers as that client does, or but for its server.
+use Prim.Native.Nat.{ℕ}
+use lib.IntN.{ℤ}
+use Rattle.timestamp.specs.declared.Timestamp.{Timestamp}
+use Rattle.client.specs.declared.Client.{Client}
+use Rattle.client.specs.Calls.{Arrival, Call, Result}
+use Rattle.demands.specs.Form.{Form, Implementation, Refuses, Answers}
+use Rattle.demands.specs.Wrapper.{through}
+use Rattle.demands.specs.Client as clients
+use Rattle.demands.specs.Reply as replies
+use Rattle.demands.specs.Reply.{Request}
+use Rattle.demands.specs.Line.{carrying}
+use Rattle.demands.specs.Behaviour.{Operation, client, reply, measure, read, write, date, timestamp, precision, entry, tick, line, form, Behaviour, ours}
+use Rattle.demands.specs.Demand3.{Demand3}
+use Rattle.wrong_behaviours.specs.Client.{refusing, alwaysWriting, takingNone, stayingWaiting, spending, kissFirst, unsignedTimes, rootUntested, negativeDelayUntested, dispersionSigned, rootSwapped, rootAfter15, fixing, measuring, zeroOffset, hugeDelay, halfLost, largeHalf, towardZero, halvedApart}
+use Rattle.wrong_behaviours.specs.Others.{neverReplying, wrongOriginate, replyingAnyway, readingNothing, writingNothing, fourthYearDates, fourthYearTimestamps, roundedDown, refusingEntries, takingEntries, payingAll, refusingLines, droppingDigits, startingAfresh}
+
+-- ours with this client
+abbrev clientOf : Implementation clients.client → (x : Operation) → Implementation (form x)
+clientOf f client = f
+clientOf f reply = ours .does reply
+clientOf f measure = ours .does measure
+clientOf f read = ours .does read
+clientOf f write = ours .does write
+clientOf f date = ours .does date
+clientOf f timestamp = ours .does timestamp
+clientOf f precision = ours .does precision
+clientOf f entry = ours .does entry
+clientOf f tick = ours .does tick
+clientOf f line = through clients.client carrying f
+
+abbrev pub withClient : Implementation clients.client → Behaviour
+withClient f = record { fresh = ours .fresh; opened = ours .opened; does = clientOf f }
+
+-- ours with this server
+abbrev serverOf : Implementation replies.reply → (x : Operation) → Implementation (form x)
+serverOf f client = ours .does client
+serverOf f reply = f
+serverOf f measure = ours .does measure
+serverOf f read = ours .does read
+serverOf f write = ours .does write
+serverOf f date = ours .does date
+serverOf f timestamp = ours .does timestamp
+serverOf f precision = ours .does precision
+serverOf f entry = ours .does entry
+serverOf f tick = ours .does tick
+serverOf f line = ours .does line
+
+abbrev pub withServer : Implementation replies.reply → Behaviour
+withServer f = record { fresh = ours .fresh; opened = ours .opened; does = serverOf f }
+
+-- ---- the demands that fail
+
+abbrev pub Fails1 : (x : Operation) → Implementation (form x) → Type 0
+Fails1 x f = Refuses (form x) f → ⊥
+
+abbrev pub Fails2 : (x : Operation) → Implementation (form x) → Type 0
+Fails2 x f = Answers (form x) f → ⊥
+
+abbrev pub Fails3 : Behaviour → Type 0
+Fails3 b = Demand3 b → ⊥
+
+-- a client that fails demands 2 and 3, and such a server
+abbrev Client23 : Implementation clients.client → Type 0
+Client23 f = Fails2 client f × Fails3 (withClient f)
+
+abbrev Server23 : Implementation replies.reply → Type 0
+Server23 f = Fails2 reply f × Fails3 (withServer f)
+
+pub record Refuted : Type 0 where
+  -- the client
+  pub refuses-everything : (number : Client → Call → ℕ) → Fails2 client (refusing number)
+  pub refuses-by-0 : Fails1 client (refusing (λ c x. 0))
+  -- demand 3 alone lets one pass that never asks: its premise is an ask that was not refused
+  pub never-asks : (number : Client → Call → ℕ) → Demand3 (withClient (refusing number))
+  pub takes-no-reply : (number : Client → Arrival → ℕ) → Client23 (takingNone number)
+  pub stays-waiting : Fails2 client stayingWaiting
+  pub offset-zero : Client23 (measuring zeroOffset)
+  pub huge-delay : Client23 (measuring hugeDelay)
+  pub half-lost : Client23 (measuring halfLost)
+  pub large-half : Client23 (measuring largeHalf)
+  pub toward-zero : Client23 (measuring towardZero)
+  pub halved-apart : Client23 (measuring halvedApart)
+  pub fixed-when-asking : (guess : Client → Timestamp → ℤ → Result) → Client23 (fixing guess)
+  pub unsigned-times : Client23 unsignedTimes
+  pub kiss-before-originate : Client23 kissFirst
+  pub root-untested : Fails2 client rootUntested
+  pub negative-delay-untested : Fails2 client negativeDelayUntested
+  pub dispersion-signed : Fails2 client dispersionSigned
+  pub root-swapped : Fails2 client rootSwapped
+  pub root-after-15 : Fails2 client rootAfter15
+  pub spends-the-request : Fails1 client spending × Fails3 (withClient spending)
+  pub writes-when-refused : Fails1 client alwaysWriting × Fails3 (withClient alwaysWriting)
+  -- the server
+  pub never-replies : (number : Request → ℕ) → Server23 (neverReplying number)
+  pub wrong-originate : Server23 wrongOriginate
+  pub replies-anyway : Fails1 reply replyingAnyway
+  -- the packet, the calendar, the precision octet
+  pub reads-nothing : Fails2 read readingNothing
+  pub writes-nothing : Fails2 write writingNothing
+  pub every-fourth-year : Fails2 date fourthYearDates
+  pub february-2100 : Fails2 timestamp fourthYearTimestamps
+  pub rounded-down : Fails2 precision roundedDown
+  -- the ledger
+  pub refuses-entries-by-0 : Fails1 entry refusingEntries
+  pub takes-every-entry : Fails2 entry takingEntries
+  pub pays-all : Fails2 tick payingAll
+  -- the replay
+  pub refuses-every-line : Fails2 line refusingLines
+  pub accepts-odd-digits : Fails2 line droppingDigits
+  pub starts-afresh : Fails1 line startingAfresh
