@@ -71,7 +71,7 @@ impl Client {
     // Ask: the client request of RFC 4330, section 5, is written into the buffer for the caller to send.
     pub fn ask(self, buffer: &mut [u8], version: u8, clock: Timestamp, uptime: u64) -> Next
         ensures answer { λ r. ⌜ r ≡ asked self (length (now (buffer .entry))) version clock uptime ⌝ }
-        ensures written { λ _. ⌜ now (buffer .exit) ≡ askedBuffer self (now (buffer .entry)) version clock uptime ⌝ }
+        ensures buffer { λ _. ⌜ now (buffer .exit) ≡ askedBuffer self (now (buffer .entry)) version clock uptime ⌝ }
     {
         let n = self.ask_number(buffer.len(), version, clock, uptime);
         if n != 0 {

@@ -7,10 +7,11 @@ use lib.Dec.{ltb, eqb}
 use Rattle.numbers.specs.TwosComplement.{signed, bits}
 use Rattle.numbers.specs.Octets.{bigEndian, octets, part}
 use Rattle.refusals.specs.Numbers.{packet-length-wrong, buffer-too-short, field-too-large}
-use Rattle.ordered_tests.specs.Tests.{Tests, _if_else_, otherwise, number, answer, kept, pass}
+use Rattle.ordered_tests.specs.Tests.{Tests, _if_else_, otherwise, answer, kept}
 use Rattle.timestamp.specs.Timestamp.{timestamp}
 use Rattle.packet.specs.declared.Fields.{Fields}
 use Rattle.packet.specs.declared.FieldsAnswer.{FieldsAnswer}
+use Rattle.packet.specs.declared.WriteAnswer.{WriteAnswer}
 
 -- an octet of p, and the number that its octets from one index to another are
 abbrev pub octet : ℕ → List ℕ → ℕ
@@ -79,14 +80,14 @@ abbrev pub tooLarge : Fields → Bool
 tooLarge f = ltb 3 (f .leap) || ltb 7 (f .version) || ltb 7 (f .mode)
 
 -- writing refuses by 1, then 27
-abbrev pub writeTests : List ℕ → Fields → Tests (Unit {0})
+abbrev pub writeTests : List ℕ → Fields → Tests WriteAnswer
 writeTests buffer f =
     buffer-too-short if tooShort buffer else
     field-too-large if tooLarge f else
-    pass
+    otherwise WriteAnswer.Written
 
-abbrev pub writeNumber : List ℕ → Fields → ℕ
-writeNumber buffer f = number (writeTests buffer f)
+abbrev pub writeAnswer : List ℕ → Fields → WriteAnswer
+writeAnswer buffer f = answer WriteAnswer.Refused (writeTests buffer f)
 
 -- what the buffer holds after writing
 abbrev pub written : List ℕ → Fields → List ℕ

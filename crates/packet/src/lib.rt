@@ -6,7 +6,7 @@ ghost use mathlib.Core.List.{_++_};
 ghost use lib.ListN.{length, take};
 ghost use lib.Seq.{sets};
 ghost use Rattle.numbers.specs.Octets.{octets};
-ghost use Rattle.packet.specs.Packet.{fieldsOf, octetsOf, tooLarge, readAnswer, writeNumber, written};
+ghost use Rattle.packet.specs.Packet.{fieldsOf, octetsOf, tooLarge, readAnswer, writeAnswer, written};
 use timestamp::Timestamp;
 
 // `leap` is LI and `version` VN; root delay and root dispersion have 16 fraction bits.
@@ -24,6 +24,12 @@ pub struct Fields {
     pub originate: Timestamp,
     pub receive: Timestamp,
     pub transmit: Timestamp,
+}
+
+// What writing a packet answers.
+pub enum WriteAnswer {
+    Refused(u8),
+    Written,
 }
 
 // What reading a packet answers.
@@ -130,17 +136,17 @@ fn put_fields(b: &mut [u8], fields: Fields)
     );
 }
 
-// Writes the fields into the first 48 octets of the buffer and returns 0, or the number of a refusal.
-pub fn write(buffer: &mut [u8], fields: Fields) -> u8
-    ensures { λ r. ⌜ r ≡ writeNumber (now (buffer .entry)) fields ⌝ }
-    ensures { λ _. ⌜ now (buffer .exit) ≡ written (now (buffer .entry)) fields ⌝ }
+// Writes the fields into the first 48 octets of the buffer.
+pub fn write(buffer: &mut [u8], fields: Fields) -> WriteAnswer
+    ensures answer { λ r. ⌜ r ≡ writeAnswer (now (buffer .entry)) fields ⌝ }
+    ensures buffer { λ _. ⌜ now (buffer .exit) ≡ written (now (buffer .entry)) fields ⌝ }
 {
     if buffer.len() < 48 {
-        return refusals::BUFFER_TOO_SHORT;
+        return WriteAnswer::Refused(refusals::BUFFER_TOO_SHORT);
     }
     if too_large(fields) {
-        return refusals::FIELD_TOO_LARGE;
+        return WriteAnswer::Refused(refusals::FIELD_TOO_LARGE);
     }
     put_fields(buffer, fields);
-    0
+    WriteAnswer::Written
 }

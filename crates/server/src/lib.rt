@@ -135,8 +135,8 @@ fn reply_to(
     buffer: &mut [u8],
 ) -> ReplyAnswer
     requires { ⌜ 48 ≤ length (now buffer) ⌝ }
-    ensures { λ r. ⌜ r ≡ answer ReplyAnswer.Refused (requestTests settings request t2 t3) ⌝ }
-    ensures { λ _. ⌜ now (buffer .exit) ≡ kept (requestTests settings request t2 t3) (now (buffer .entry)) (octetsOf (replyFields settings request t2 t3) ++ drop 48 (now (buffer .entry))) ⌝ }
+    ensures answer { λ r. ⌜ r ≡ answer ReplyAnswer.Refused (requestTests settings request t2 t3) ⌝ }
+    ensures buffer { λ _. ⌜ now (buffer .exit) ≡ kept (requestTests settings request t2 t3) (now (buffer .entry)) (octetsOf (replyFields settings request t2 t3) ++ drop 48 (now (buffer .entry))) ⌝ }
 {
     let number = first_refusal(settings, request, t2, t3);
     if number != 0 {
@@ -149,14 +149,14 @@ fn reply_to(
 
 // Writes the reply to a request that was received at T2 into the first 48 octets of the buffer; T3 is when it is sent.
 pub fn reply(
-    request: &[u8],
     settings: Settings,
+    request: &[u8],
     t2: Timestamp,
     t3: Timestamp,
     buffer: &mut [u8],
 ) -> ReplyAnswer
-    ensures answer { λ r. ⌜ r ≡ replied (now (request .entry)) settings t2 t3 (now (buffer .entry)) ⌝ }
-    ensures buffer { λ _. ⌜ now (buffer .exit) ≡ repliedBuffer (now (request .entry)) settings t2 t3 (now (buffer .entry)) ⌝ }
+    ensures answer { λ r. ⌜ r ≡ replied settings (now (request .entry)) t2 t3 (now (buffer .entry)) ⌝ }
+    ensures buffer { λ _. ⌜ now (buffer .exit) ≡ repliedBuffer settings (now (request .entry)) t2 t3 (now (buffer .entry)) ⌝ }
 {
     if buffer.len() < 48 {
         return ReplyAnswer::Refused(refusals::BUFFER_TOO_SHORT);
