@@ -54,9 +54,16 @@ octetsOf f =
     ++ octets 8 (f .receive .0)  -- 32 to 39
     ++ octets 8 (f .transmit .0)  -- 40 to 47
 
--- a packet of neither 48 octets nor 68, of which the last 20 are an authenticator
+-- a packet has 48 octets; an authenticator is 20 more
+abbrev pub packetLength : ℕ
+packetLength = 48
+
+abbrev pub authenticatedLength : ℕ
+authenticatedLength = packetLength + 20
+
+-- a packet of neither length
 abbrev pub wrongLength : List ℕ → Bool
-wrongLength packet = not (eqb (length packet) 48 || eqb (length packet) 68)
+wrongLength packet = not (eqb (length packet) packetLength || eqb (length packet) authenticatedLength)
 
 -- reading refuses by 7 only
 abbrev pub readTests : List ℕ → Tests FieldsAnswer
@@ -72,9 +79,9 @@ abbrev pub numberIn : FieldsAnswer → ℕ
 numberIn (FieldsAnswer.Refused n) = n
 numberIn (FieldsAnswer.Fields f) = 0
 
--- a buffer under 48 octets; a field that is too large to write
+-- a buffer with no room for a packet; a field that is too large to write
 abbrev pub tooShort : List ℕ → Bool
-tooShort buffer = ltb (length buffer) 48
+tooShort buffer = ltb (length buffer) packetLength
 
 abbrev pub tooLarge : Fields → Bool
 tooLarge f = ltb 3 (f .leap) || ltb 7 (f .version) || ltb 7 (f .mode)
@@ -91,4 +98,4 @@ writeAnswer buffer f = answer WriteAnswer.Refused (writeTests buffer f)
 
 -- what the buffer holds after writing
 abbrev pub written : List ℕ → Fields → List ℕ
-written buffer f = kept (writeTests buffer f) buffer (octetsOf f ++ drop 48 buffer)
+written buffer f = kept (writeTests buffer f) buffer (octetsOf f ++ drop packetLength buffer)

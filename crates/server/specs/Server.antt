@@ -11,7 +11,7 @@ use Rattle.ordered_tests.specs.Tests.{Tests, _if_else_, otherwise, answer, kept
 use Rattle.timestamp.specs.declared.Timestamp.{Timestamp}
 use Rattle.timestamp.specs.Timestamp.{constants, isZero, _⊖_, negative}
 use Rattle.packet.specs.declared.Fields.{Fields}
-use Rattle.packet.specs.Packet.{fieldsOf, octetsOf, tooShort, wrongLength}
+use Rattle.packet.specs.Packet.{packetLength, fieldsOf, octetsOf, tooShort, wrongLength}
 use Rattle.kiss.specs.Kiss as kiss
 use Rattle.server.specs.declared.Settings.{Settings}
 use Rattle.server.specs.declared.ReplyAnswer.{ReplyAnswer}
@@ -73,7 +73,7 @@ replied s request t2 t3 buffer = answer Refused (replyTests s request t2 t3 buff
 
 unfoldable pub repliedBuffer : Settings → List ℕ → (t2 t3 : Timestamp) → List ℕ → List ℕ
 repliedBuffer s request t2 t3 buffer =
-    kept (replyTests s request t2 t3 buffer) buffer (octetsOf (replyFields s (fieldsOf request) t2 t3) ++ drop 48 buffer)
+    kept (replyTests s request t2 t3 buffer) buffer (octetsOf (replyFields s (fieldsOf request) t2 t3) ++ drop packetLength buffer)
 
 -- document 01's number of an answer
 abbrev pub numberIn : ReplyAnswer → ℕ
