@@ -4,6 +4,7 @@ ghost use mathlib.Core.List.{_++_};
 ghost use Prim.Native.Nat.{_≤_};
 ghost use lib.ListN.{length, drop};
 ghost use Rattle.ordered_tests.specs.Tests.{number};
+ghost use Rattle.packet.specs.Packet.{packetLength};
 ghost use Rattle.client.specs.Ask.{request, askTests, asked, askedBuffer};
 use crate::CallAnswer;
 use crate::Client;
@@ -16,8 +17,8 @@ use timestamp::Timestamp;
 
 // The 48 octets of a request: all zero but version, mode 3 and transmit timestamp.
 fn write_request(buffer: &mut [u8], version: u8, clock: Timestamp)
-    requires { ⌜ (48 ≤ length (now buffer)) × (version ≤ 7) ⌝ }
-    ensures { λ _. ⌜ now (buffer .exit) ≡ request version clock ++ drop 48 (now (buffer .entry)) ⌝ }
+    requires { ⌜ (packetLength ≤ length (now buffer)) × (version ≤ 7) ⌝ }
+    ensures { λ _. ⌜ now (buffer .exit) ≡ request version clock ++ drop packetLength (now (buffer .entry)) ⌝ }
 {
     packet::write(
         buffer,
@@ -47,7 +48,7 @@ impl Client {
         if self.illegal() {
             return refusals::RECORD_NOT_LEGAL;
         }
-        if room < 48 {
+        if room < packet::LENGTH {
             return refusals::BUFFER_TOO_SHORT;
         }
         if !between(1, 4, version) {
@@ -71,7 +72,7 @@ impl Client {
     // Ask: the client request of RFC 4330, section 5, is written into the buffer for the caller to send.
     pub fn ask(self, buffer: &mut [u8], version: u8, clock: Timestamp, uptime: u64) -> Next
         ensures answer { λ r. ⌜ r ≡ asked self (length (now (buffer .entry))) version clock uptime ⌝ }
-        ensures written { λ _. ⌜ now (buffer .exit) ≡ askedBuffer self (now (buffer .entry)) version clock uptime ⌝ }
+        ensures buffer { λ _. ⌜ now (buffer .exit) ≡ askedBuffer self (now (buffer .entry)) version clock uptime ⌝ }
     {
         let n = self.ask_number(buffer.len(), version, clock, uptime);
         if n != 0 {

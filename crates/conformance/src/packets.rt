@@ -5,6 +5,7 @@ use crate::input::fields;
 use crate::lent::filled;
 use crate::lent::lent_count;
 use packet::FieldsAnswer;
+use packet::WriteAnswer;
 
 pub(crate) fn read(line: &[u8]) -> Answer {
     match packet::read(after(line, 1)) {
@@ -13,9 +14,16 @@ pub(crate) fn read(line: &[u8]) -> Answer {
     }
 }
 
+fn written(answer: WriteAnswer) -> Answer {
+    match answer {
+        WriteAnswer::Refused(number) => Answer::number(number),
+        WriteAnswer::Written => Answer::number(0),
+    }
+}
+
 pub(crate) fn write(line: &[u8]) -> Answer {
     let mut buffer = filled();
     let n = lent_count(line, 1);
-    let number = packet::write(&mut buffer[0..n], fields(line));
-    Answer::number(number).with_lent(buffer, n)
+    let answer = packet::write(&mut buffer[0..n], fields(line));
+    written(answer).with_lent(buffer, n)
 }

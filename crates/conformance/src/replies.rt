@@ -32,7 +32,7 @@ pub(crate) fn reply(line: &[u8]) -> Answer {
     let request = after(line, 33);
     let t2 = timestamp(line, 16);
     let t3 = timestamp(line, 24);
-    let answer = server::reply(request, settings(line), t2, t3, &mut buffer[0..n]);
+    let answer = server::reply(settings(line), request, t2, t3, &mut buffer[0..n]);
     replied(answer).with_lent(buffer, n)
 }
 

@@ -71,7 +71,7 @@ impl Line {
     // The second digit of a pair.
     fn paired(self, buffer: &mut [u8], low: u8) -> Line
         requires { ⌜ (self .high < 16) × (low < 16) ⌝ }
-        ensures line { λ r. ⌜ r ≡ paired self (now (buffer .entry)) ⌝ }
+        ensures answer { λ r. ⌜ r ≡ paired self (now (buffer .entry)) ⌝ }
         ensures buffer { λ _. ⌜ now (buffer .exit) ≡ pairedBuffer self (now (buffer .entry)) low ⌝ }
     {
         let at = self.count;
@@ -88,7 +88,7 @@ impl Line {
 
     // One more character, which is not the line's end.
     pub fn push(self, buffer: &mut [u8], c: u8) -> Line
-        ensures line { λ r. ⌜ r ≡ pushed self (now (buffer .entry)) c ⌝ }
+        ensures answer { λ r. ⌜ r ≡ pushed self (now (buffer .entry)) c ⌝ }
         ensures buffer { λ _. ⌜ now (buffer .exit) ≡ pushedBuffer self (now (buffer .entry)) c ⌝ }
     {
         let value = digit(c);
@@ -107,7 +107,7 @@ impl Line {
 
     // Takes the characters from index at on, up to a line feed or to the last one.
     pub fn take(self, buffer: &mut [u8], characters: &[u8], at: usize) -> Taken
-        ensures line { λ r. ⌜ r ≡ taken self (now (buffer .entry)) (now (characters .entry)) at ⌝ }
+        ensures answer { λ r. ⌜ r ≡ taken self (now (buffer .entry)) (now (characters .entry)) at ⌝ }
         ensures buffer { λ _. ⌜ now (buffer .exit) ≡ takenBuffer self (now (buffer .entry)) (now (characters .entry)) at ⌝ }
     {
         let mut line = self;

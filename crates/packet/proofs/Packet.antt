@@ -15,7 +15,8 @@ use Rattle.refusals.specs.Numbers.{packet-length-wrong}
 use Rattle.ordered_tests.specs.Tests.{_if_else_, otherwise, answer}
 use Rattle.packet.specs.declared.Fields.{Fields}
 use Rattle.packet.specs.declared.FieldsAnswer.{FieldsAnswer}
-use Rattle.packet.specs.Packet.{fieldsOf, octetsOf, wrongLength, readAnswer, tooLarge, writeNumber, written}
+use Rattle.packet.specs.declared.WriteAnswer.{WriteAnswer}
+use Rattle.packet.specs.Packet.{fieldsOf, octetsOf, wrongLength, readAnswer, tooLarge, writeAnswer, written}
 
 pub length-octetsOf : (f : Fields) → length (octetsOf f) ≡ 48
 unfolding octetsOf
@@ -46,8 +47,8 @@ bounded f e =
 
 -- writing that is not refused
 module _ (b : List ℕ) (f : Fields) (long : 48 ≤ length b) (small : tooLarge f ≡ false) where
-  pub number-written : writeNumber b f ≡ 0
-  number-written = rw (le-ltb (length b) 48 long, small)
+  pub answer-written : writeAnswer b f ≡ WriteAnswer.Written
+  answer-written = rw (le-ltb (length b) 48 long, small)
 
   pub octets-written : written b f ≡ octetsOf f ++ drop 48 b
   octets-written = rw (le-ltb (length b) 48 long, small)

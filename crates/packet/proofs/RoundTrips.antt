@@ -20,7 +20,7 @@ use Rattle.packet.specs.declared.Fields.{Fields}
 use Rattle.packet.specs.declared.FieldsAnswer.{FieldsAnswer}
 use Rattle.packet.specs.Packet.{octet, _from_to_, fieldsOf, octetsOf, wrongLength, readAnswer, tooLarge, written}
 use Rattle.packet.specs.RoundTrips.{Legal, RoundTrips}
-use Rattle.packet.proofs.Packet.{length-octetsOf, bounded, number-written, octets-written}
+use Rattle.packet.proofs.Packet.{length-octetsOf, bounded, answer-written, octets-written}
 
 either : {C : Type 0} (x : Bool) → (x ≡ true → C) → (x ≡ false → C) → C
 either true f g = f refl
@@ -153,9 +153,9 @@ round-trips = record {
   octets-back = λ p b f h e long.
       let r = fields-read p f e in
       let small : tooLarge f ≡ false = ap tooLarge (sym (r .1)) ∙ fieldsOf-small p h in
-      (number-written b f long small, octets-written b f long small ∙ (rw (← r .1, octetsOf-fieldsOf p (r .0) h)));
+      (answer-written b f long small, octets-written b f long small ∙ (rw (← r .1, octetsOf-fieldsOf p (r .0) h)));
   fields-back = λ b f k long.
-      (number-written b f long (k .small), (rw (octets-written b f long (k .small), take-at (octetsOf f) (drop 48 b) 48 (length-octetsOf f), length-octetsOf f, fieldsOf-octetsOf f k)));
+      (answer-written b f long (k .small), (rw (octets-written b f long (k .small), take-at (octetsOf f) (drop 48 b) 48 (length-octetsOf f), length-octetsOf f, fieldsOf-octetsOf f k)));
   first-48-read = λ p q l e. (rw (l, ← fieldsOf-take p, e, fieldsOf-take q));
   number-read = λ p. either (wrongLength p) (λ t. rw t) (λ t. rw t);
   rest-kept = λ b f. by-cases b f (λ l. drop 48 l ≡ drop 48 b) refl (λ long. drop-at (octetsOf f) (drop 48 b) 48 (length-octetsOf f));

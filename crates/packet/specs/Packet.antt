@@ -7,10 +7,11 @@ use lib.Dec.{ltb, eqb}
 use Rattle.numbers.specs.TwosComplement.{signed, bits}
 use Rattle.numbers.specs.Octets.{bigEndian, octets, part}
 use Rattle.refusals.specs.Numbers.{packet-length-wrong, buffer-too-short, field-too-large}
-use Rattle.ordered_tests.specs.Tests.{Tests, _if_else_, otherwise, number, answer, kept, pass}
+use Rattle.ordered_tests.specs.Tests.{Tests, _if_else_, otherwise, answer, kept}
 use Rattle.timestamp.specs.Timestamp.{timestamp}
 use Rattle.packet.specs.declared.Fields.{Fields}
 use Rattle.packet.specs.declared.FieldsAnswer.{FieldsAnswer}
+use Rattle.packet.specs.declared.WriteAnswer.{WriteAnswer}
 
 -- an octet of p, and the number that its octets from one index to another are
 abbrev pub octet : ℕ → List ℕ → ℕ
@@ -53,9 +54,16 @@ octetsOf f =
     ++ octets 8 (f .receive .0)  -- 32 to 39
     ++ octets 8 (f .transmit .0)  -- 40 to 47
 
--- a packet of neither 48 octets nor 68, of which the last 20 are an authenticator
+-- a packet has 48 octets; an authenticator is 20 more
+abbrev pub packetLength : ℕ
+packetLength = 48
+
+abbrev pub authenticatedLength : ℕ
+authenticatedLength = packetLength + 20
+
+-- a packet of neither length
 abbrev pub wrongLength : List ℕ → Bool
-wrongLength packet = not (eqb (length packet) 48 || eqb (length packet) 68)
+wrongLength packet = not (eqb (length packet) packetLength || eqb (length packet) authenticatedLength)
 
 -- reading refuses by 7 only
 abbrev pub readTests : List ℕ → Tests FieldsAnswer
@@ -71,23 +79,23 @@ abbrev pub numberIn : FieldsAnswer → ℕ
 numberIn (FieldsAnswer.Refused n) = n
 numberIn (FieldsAnswer.Fields f) = 0
 
--- a buffer under 48 octets; a field that is too large to write
+-- a buffer with no room for a packet; a field that is too large to write
 abbrev pub tooShort : List ℕ → Bool
-tooShort buffer = ltb (length buffer) 48
+tooShort buffer = ltb (length buffer) packetLength
 
 abbrev pub tooLarge : Fields → Bool
 tooLarge f = ltb 3 (f .leap) || ltb 7 (f .version) || ltb 7 (f .mode)
 
 -- writing refuses by 1, then 27
-abbrev pub writeTests : List ℕ → Fields → Tests (Unit {0})
+abbrev pub writeTests : List ℕ → Fields → Tests WriteAnswer
 writeTests buffer f =
     buffer-too-short if tooShort buffer else
     field-too-large if tooLarge f else
-    pass
+    otherwise WriteAnswer.Written
 
-abbrev pub writeNumber : List ℕ → Fields → ℕ
-writeNumber buffer f = number (writeTests buffer f)
+abbrev pub writeAnswer : List ℕ → Fields → WriteAnswer
+writeAnswer buffer f = answer WriteAnswer.Refused (writeTests buffer f)
 
 -- what the buffer holds after writing
 abbrev pub written : List ℕ → Fields → List ℕ
-written buffer f = kept (writeTests buffer f) buffer (octetsOf f ++ drop 48 buffer)
+written buffer f = kept (writeTests buffer f) buffer (octetsOf f ++ drop packetLength buffer)

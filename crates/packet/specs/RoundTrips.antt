@@ -9,7 +9,8 @@ use Rattle.numbers.specs.Octets.{AreOctets}
 use Rattle.ordered_tests.specs.Tests.{number}
 use Rattle.packet.specs.declared.Fields.{Fields}
 use Rattle.packet.specs.declared.FieldsAnswer.{FieldsAnswer}
-use Rattle.packet.specs.Packet.{readTests, readAnswer, numberIn, tooLarge, writeNumber, written}
+use Rattle.packet.specs.declared.WriteAnswer.{WriteAnswer}
+use Rattle.packet.specs.Packet.{packetLength, readTests, readAnswer, numberIn, tooLarge, writeAnswer, written}
 
 -- fields that writing does not refuse, each a value of its type
 pub record Legal (f : Fields) : Type 0 where
@@ -27,15 +28,15 @@ pub record Legal (f : Fields) : Type 0 where
 
 pub record RoundTrips : Type 0 where
   -- octets that are read into fields are written back the same
-  pub octets-back : (p b : List ℕ) (f : Fields) → AreOctets p → readAnswer p ≡ FieldsAnswer.Fields f → 48 ≤ length b
-      → (writeNumber b f ≡ 0) × (written b f ≡ take 48 p ++ drop 48 b)
+  pub octets-back : (p b : List ℕ) (f : Fields) → AreOctets p → readAnswer p ≡ FieldsAnswer.Fields f → packetLength ≤ length b
+      → (writeAnswer b f ≡ WriteAnswer.Written) × (written b f ≡ take packetLength p ++ drop packetLength b)
   -- legal fields that are written are read back the same
-  pub fields-back : (b : List ℕ) (f : Fields) → Legal f → 48 ≤ length b
-      → (writeNumber b f ≡ 0) × (readAnswer (take 48 (written b f)) ≡ FieldsAnswer.Fields f)
+  pub fields-back : (b : List ℕ) (f : Fields) → Legal f → packetLength ≤ length b
+      → (writeAnswer b f ≡ WriteAnswer.Written) × (readAnswer (take packetLength (written b f)) ≡ FieldsAnswer.Fields f)
   -- reading depends on the length and the first 48 octets alone: an authenticator is not read
-  pub first-48-read : (p q : List ℕ) → length p ≡ length q → take 48 p ≡ take 48 q → readAnswer p ≡ readAnswer q
+  pub first-48-read : (p q : List ℕ) → length p ≡ length q → take packetLength p ≡ take packetLength q → readAnswer p ≡ readAnswer q
   -- the number that reading gives the caller is the one of its tests
   pub number-read : (p : List ℕ) → numberIn (readAnswer p) ≡ number (readTests p)
   -- writing leaves the octets past the 48th, and the length, as they were
-  pub rest-kept : (b : List ℕ) (f : Fields) → drop 48 (written b f) ≡ drop 48 b
+  pub rest-kept : (b : List ℕ) (f : Fields) → drop packetLength (written b f) ≡ drop packetLength b
   pub length-kept : (b : List ℕ) (f : Fields) → length (written b f) ≡ length b

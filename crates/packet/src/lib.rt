@@ -6,8 +6,13 @@ ghost use mathlib.Core.List.{_++_};
 ghost use lib.ListN.{length, take};
 ghost use lib.Seq.{sets};
 ghost use Rattle.numbers.specs.Octets.{octets};
-ghost use Rattle.packet.specs.Packet.{fieldsOf, octetsOf, tooLarge, readAnswer, writeNumber, written};
+ghost use Rattle.packet.specs.Packet.{packetLength, fieldsOf, octetsOf, tooLarge, readAnswer, writeAnswer, written};
 use timestamp::Timestamp;
+
+// The octets of a packet, and of one with an authenticator, which is not read.
+pub const LENGTH: usize = 48;
+
+pub const AUTHENTICATED_LENGTH: usize = LENGTH + 20;
 
 // `leap` is LI and `version` VN; root delay and root dispersion have 16 fraction bits.
 pub struct Fields {
@@ -26,6 +31,12 @@ pub struct Fields {
     pub transmit: Timestamp,
 }
 
+// What writing a packet answers.
+pub enum WriteAnswer {
+    Refused(u8),
+    Written,
+}
+
 // What reading a packet answers.
 pub enum FieldsAnswer {
     Refused(u8),
@@ -34,7 +45,7 @@ pub enum FieldsAnswer {
 
 // The fields of a packet that has at least 48 octets.
 fn read_fields(p: &[u8]) -> Fields
-    requires { ⌜ 48 ≤ length (now p) ⌝ }
+    requires { ⌜ packetLength ≤ length (now p) ⌝ }
     ensures { λ r. ⌜ r ≡ fieldsOf (now (p .entry)) ⌝ }
 {
     Fields {
@@ -54,11 +65,11 @@ fn read_fields(p: &[u8]) -> Fields
     }
 }
 
-// Reads a packet of 48 octets, or of 68 with an authenticator that is not read.
+// Reads a packet, with or without an authenticator.
 pub fn read(packet: &[u8]) -> FieldsAnswer
     ensures { λ r. ⌜ r ≡ readAnswer (now (packet .entry)) ⌝ }
 {
-    if packet.len() == 48 || packet.len() == 68 {
+    if packet.len() == LENGTH || packet.len() == AUTHENTICATED_LENGTH {
         return FieldsAnswer::Fields(read_fields(packet));
     }
     FieldsAnswer::Refused(refusals::PACKET_LENGTH_WRONG)
@@ -112,7 +123,7 @@ fn first_word(fields: Fields) -> u32
 
 // Stores the 48 octets of fields that are not too large.
 fn put_fields(b: &mut [u8], fields: Fields)
-    requires { ⌜ 48 ≤ length (now b) ⌝ }
+    requires { ⌜ packetLength ≤ length (now b) ⌝ }
     requires { ⌜ tooLarge fields ≡ false ⌝ }
     ensures { λ _. ⌜ now (b .exit) ≡ sets (now (b .entry)) 0 (octetsOf fields) ⌝ }
 {
@@ -130,17 +141,17 @@ fn put_fields(b: &mut [u8], fields: Fields)
     );
 }
 
-// Writes the fields into the first 48 octets of the buffer and returns 0, or the number of a refusal.
-pub fn write(buffer: &mut [u8], fields: Fields) -> u8
-    ensures { λ r. ⌜ r ≡ writeNumber (now (buffer .entry)) fields ⌝ }
-    ensures { λ _. ⌜ now (buffer .exit) ≡ written (now (buffer .entry)) fields ⌝ }
+// Writes the fields into the first 48 octets of the buffer.
+pub fn write(buffer: &mut [u8], fields: Fields) -> WriteAnswer
+    ensures answer { λ r. ⌜ r ≡ writeAnswer (now (buffer .entry)) fields ⌝ }
+    ensures buffer { λ _. ⌜ now (buffer .exit) ≡ written (now (buffer .entry)) fields ⌝ }
 {
-    if buffer.len() < 48 {
-        return refusals::BUFFER_TOO_SHORT;
+    if buffer.len() < LENGTH {
+        return WriteAnswer::Refused(refusals::BUFFER_TOO_SHORT);
     }
     if too_large(fields) {
-        return refusals::FIELD_TOO_LARGE;
+        return WriteAnswer::Refused(refusals::FIELD_TOO_LARGE);
     }
     put_fields(buffer, fields);
-    0
+    WriteAnswer::Written
 }

@@ -11,7 +11,7 @@ use Rattle.ordered_tests.specs.Tests.{Tests, _if_else_, otherwise, answer, kept
 use Rattle.timestamp.specs.declared.Timestamp.{Timestamp}
 use Rattle.timestamp.specs.Timestamp.{constants, isZero, _⊖_, negative}
 use Rattle.packet.specs.declared.Fields.{Fields}
-use Rattle.packet.specs.Packet.{fieldsOf, octetsOf, tooShort, wrongLength}
+use Rattle.packet.specs.Packet.{packetLength, fieldsOf, octetsOf, tooShort, wrongLength}
 use Rattle.kiss.specs.Kiss as kiss
 use Rattle.server.specs.declared.Settings.{Settings}
 use Rattle.server.specs.declared.ReplyAnswer.{ReplyAnswer}
@@ -31,8 +31,8 @@ requestTests s request t2 t3 =
     answered-before-received if s .synchronised && negative (t3 ⊖ t2) else
     otherwise Written
 
-unfoldable pub replyTests : List ℕ → Settings → (t2 t3 : Timestamp) → List ℕ → Tests ReplyAnswer
-replyTests request s t2 t3 buffer =
+unfoldable pub replyTests : Settings → List ℕ → (t2 t3 : Timestamp) → List ℕ → Tests ReplyAnswer
+replyTests s request t2 t3 buffer =
     buffer-too-short if tooShort buffer else
     packet-length-wrong if wrongLength request else
     requestTests s (fieldsOf request) t2 t3
@@ -68,12 +68,12 @@ unfoldable pub replyFields : Settings → Fields → (t2 t3 : Timestamp) → Fie
 replyFields s request t2 t3 = cond (s .synchronised) (synchronisedFields s request t2 t3) (unsynchronisedFields s request)
 
 -- what the call answers, and what the buffer holds after it
-unfoldable pub replied : List ℕ → Settings → (t2 t3 : Timestamp) → List ℕ → ReplyAnswer
-replied request s t2 t3 buffer = answer Refused (replyTests request s t2 t3 buffer)
+unfoldable pub replied : Settings → List ℕ → (t2 t3 : Timestamp) → List ℕ → ReplyAnswer
+replied s request t2 t3 buffer = answer Refused (replyTests s request t2 t3 buffer)
 
-unfoldable pub repliedBuffer : List ℕ → Settings → (t2 t3 : Timestamp) → List ℕ → List ℕ
-repliedBuffer request s t2 t3 buffer =
-    kept (replyTests request s t2 t3 buffer) buffer (octetsOf (replyFields s (fieldsOf request) t2 t3) ++ drop 48 buffer)
+unfoldable pub repliedBuffer : Settings → List ℕ → (t2 t3 : Timestamp) → List ℕ → List ℕ
+repliedBuffer s request t2 t3 buffer =
+    kept (replyTests s request t2 t3 buffer) buffer (octetsOf (replyFields s (fieldsOf request) t2 t3) ++ drop packetLength buffer)
 
 -- document 01's number of an answer
 abbrev pub numberIn : ReplyAnswer → ℕ

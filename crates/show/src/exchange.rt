@@ -101,7 +101,7 @@ fn show_reply(request: &[u8], synchronised: bool, buffer: &mut [u8]) {
     let t2 = Timestamp(0x4_8000_0000);
     let t3 = Timestamp(0x5_8000_0000);
     text(b"reply: ");
-    match server::reply(request, settings, t2, t3, buffer) {
+    match server::reply(settings, request, t2, t3, buffer) {
         ReplyAnswer::Refused(n) => refused(n),
         ReplyAnswer::Written => show_fields(buffer),
     }

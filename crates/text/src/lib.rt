@@ -24,8 +24,8 @@ fn put_octet(output: &mut [u8], at: usize, octet: u8)
 
 fn put_octets(output: &mut [u8], at: usize, octets: &[u8]) -> usize
     requires { ⌜ at + length (digits (now octets)) ≤ length (now output) ⌝ }
-    ensures { λ r. ⌜ r ≡ at + length (digits (now (octets .entry))) ⌝ }
-    ensures { λ _. ⌜ now (output .exit) ≡ sets (now (output .entry)) at (digits (now (octets .entry))) ⌝ }
+    ensures answer { λ r. ⌜ r ≡ at + length (digits (now (octets .entry))) ⌝ }
+    ensures buffer { λ _. ⌜ now (output .exit) ≡ sets (now (output .entry)) at (digits (now (octets .entry))) ⌝ }
 {
     let mut end = at;
     let mut i = 0;
@@ -39,8 +39,8 @@ fn put_octets(output: &mut [u8], at: usize, octets: &[u8]) -> usize
 
 // Puts a line of octets into the output from index at on, and answers the index after it; where there is no room, puts nothing and answers at.
 pub fn put_line(output: &mut [u8], at: usize, octets: &[u8]) -> usize
-    ensures next { λ r. ⌜ r ≡ putLineAt (now (output .entry)) at (now (octets .entry)) ⌝ }
-    ensures output { λ _. ⌜ now (output .exit) ≡ putLine (now (output .entry)) at (now (octets .entry)) ⌝ }
+    ensures answer { λ r. ⌜ r ≡ putLineAt (now (output .entry)) at (now (octets .entry)) ⌝ }
+    ensures buffer { λ _. ⌜ now (output .exit) ≡ putLine (now (output .entry)) at (now (octets .entry)) ⌝ }
 {
     if output.len() <= at {
         return at;

@@ -2,7 +2,7 @@
 use mathlib.Core.Path.{sym, _∙_}
 use borrow.Author.Tests.{lt-ltb, le-ltb}
 use denote.Ref.{now}
-use Rattle.packet.proofs.Packet.{number-written, stored}
+use Rattle.packet.proofs.Packet.{answer-written, stored}
 use borrow.Author.Needs.{needs}
 use Rattle.packet.proofs.write.Statement.{statement}
 use Rattle.packet.proofs.write.Tie as tie
@@ -28,7 +28,7 @@ returns-3 c =
     let room = c2 .before .before in
     let a = room .before .before .args in
     let small = sym (c2 .before .too-large .ensures) ∙ c2 .if2 .left in
-    (sym (number-written (now (a .buffer)) (a .fields) (room .if1 .left) small), put .put-fields .ensures ∙ stored (now (a .buffer)) (a .fields) (room .if1 .left) small)
+    (sym (answer-written (now (a .buffer)) (a .fields) (room .if1 .left) small), put .put-fields .ensures ∙ stored (now (a .buffer)) (a .fields) (room .if1 .left) small)
 
 pub write-spec : {M : Type 1} → statement M
 write-spec =
