@@ -18,7 +18,7 @@ use Rattle.demands.proofs.Form.{Meets, _and_, end, by, acceptance-shown
 use Rattle.demands.proofs.Measure.{not-negative, at-most}
 
 abbrev table : Request → Tests ReplyAnswer
-table x = replyTests (x .request) (x .settings) (x .t2) (x .t3) (x .buffer)
+table x = replyTests (x .settings) (x .request) (x .t2) (x .t3) (x .buffer)
 
 abbrev make : Request → Given ReplyAnswer → Written ReplyAnswer
 make x g = record {

@@ -102,7 +102,7 @@ pub record Orders : Type 0 where
   pub ask : (c : Client) (x : Ask) → Both askOrder (askTests c (length (x .buffer)) (x .version) (x .clock) (x .uptime)) (askRules c x)
   pub arrival : (c : Client) (x : Arrival) → Both arrivalOrder (arrivalTests c (x .packet) (x .t4)) (arrivalRules c x)
   pub give-up : (c : Client) (x : GiveUp) → Both giveUpOrder (giveUpTests c (x .uptime)) (giveUpRules c x)
-  pub server : (x : Request) → Both replyOrder (replyTests (x .request) (x .settings) (x .t2) (x .t3) (x .buffer)) (reply .rules x)
+  pub server : (x : Request) → Both replyOrder (replyTests (x .settings) (x .request) (x .t2) (x .t3) (x .buffer)) (reply .rules x)
   pub four : (x : Four) → Both measureOrder (offsetTests (x .t4 ⊖ x .t1) (x .t3 ⊖ x .t2) (P x) (Q x)) (measure .rules x)
   pub reading : (p : List ℕ) → Both readOrder (readTests p) (read .rules p)
   pub writing : (x : Fill) → Both writeOrder (writeTests (x .buffer) (x .fields)) (write .rules x)

@@ -66,6 +66,6 @@ reply = record {
 
 abbrev pub ours : Implementation reply
 ours x = record {
-  answer = replied (x .request) (x .settings) (x .t2) (x .t3) (x .buffer);
-  octets = repliedBuffer (x .request) (x .settings) (x .t2) (x .t3) (x .buffer);
+  answer = replied (x .settings) (x .request) (x .t2) (x .t3) (x .buffer);
+  octets = repliedBuffer (x .settings) (x .request) (x .t2) (x .t3) (x .buffer);
 }
