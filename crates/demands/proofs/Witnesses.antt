@@ -1,5 +1,4 @@
 -- The premises of demand 3 are met.
-use Prim.Native.Nat.{_-_, _^_}
 use mathlib.Core.Path.{_≡_, refl, sym}
 use mathlib.Core.Logic.{_≢_}
 use mathlib.Core.Bool.{Bool, true, not, _&&_}
@@ -16,7 +15,7 @@ use Rattle.client.specs.Record.{illegal}
 use Rattle.client.specs.Ask.{askTests, asked}
 use Rattle.demands.specs.Form.{refusal}
 use Rattle.demands.specs.Behaviour.{Behaviour, client, form, ours}
-use Rattle.demands.specs.Demand3.{Exchange, reading, T1, T2, T3, T4, trueDifference, Orderly, theAsk, Premises}
+use Rattle.demands.specs.Demand3.{longestTrip, clocksApart, Exchange, reading, T1, T2, T3, T4, trueDifference, Orderly, theAsk, Premises}
 use Rattle.demands.specs.Witnesses.{replay, ahead, behind, run, Witnesses}
 use Rattle.demands.proofs.Facts.{available}
 use Rattle.demands.proofs.Form.{acceptance-shown}
@@ -53,12 +52,12 @@ module _ (e : Exchange) where
       leZ (e .sent) (e .received)
       ∷ leZ (e .received) (e .answered)
       ∷ leZ (e .answered) (e .arrived)
-      ∷ leZ (e .arrived -ℤ e .sent) (pos (2 ^ 36))
+      ∷ leZ (e .arrived -ℤ e .sent) (pos longestTrip)
       ∷ not (isZero (T1 e))
       ∷ not (isZero (T2 e))
       ∷ not (isZero (T3 e))
       ∷ not (isZero (T4 e))
-      ∷ ltb (natAbs (trueDifference e)) (2 ^ 62 - 2 ^ 36)
+      ∷ ltb (natAbs (trueDifference e)) clocksApart
       ∷ []
 
   pub orderly : T (all tests) → Orderly e

@@ -27,6 +27,13 @@ use Rattle.demands.specs.Behaviour.{Behaviour, client, reply, form}
 
 -- ---- the exchange
 
+-- 16 seconds, and how far the clocks may be apart, in units
+abbrev pub longestTrip : ℕ
+longestTrip = 2 ^ 36
+
+abbrev pub clocksApart : ℕ
+clocksApart = 2 ^ 62 - 2 ^ 36
+
 -- true times, and the constants of the two clocks, in units of 2^-32 s: whole numbers of either sign
 pub record Exchange : Type 0 where
   pub sent : ℤ
@@ -65,9 +72,9 @@ module _ (e : Exchange) where
     pub outward : e .sent ≤ℤ e .received
     pub hold : e .received ≤ℤ e .answered
     pub back : e .answered ≤ℤ e .arrived
-    pub short : (e .arrived -ℤ e .sent) ≤ℤ pos (2 ^ 36)
+    pub short : (e .arrived -ℤ e .sent) ≤ℤ pos longestTrip
     pub nonzero : (T1 ≢ notAvailable) × (T2 ≢ notAvailable) × (T3 ≢ notAvailable) × (T4 ≢ notAvailable)
-    pub near : natAbs trueDifference < 2 ^ 62 - 2 ^ 36
+    pub near : natAbs trueDifference < clocksApart
 
 -- ---- the calls in between
 
