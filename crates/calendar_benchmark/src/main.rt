@@ -27,7 +27,7 @@ fn date_value(i: u64) -> u64
     requires { ⌜ i < 10000000 ⌝ }
     ensures { λ r. ⌜ r < 2 ^ 40 ⌝ }
 {
-    match calendar::date_of_timestamp(Timestamp(i * STEP)) {
+    match calendar::date_of_timestamp(Timestamp::from_units(i * STEP)) {
         DateAnswer::Refused(number) => number as u64,
         DateAnswer::Date(date) => value_of_date(date) % 0x1_0000_0000,
     }
@@ -51,7 +51,7 @@ fn timestamp_value(i: u64) -> u64
 {
     match calendar::timestamp_of_date(date_number(i)) {
         TimestampAnswer::Refused(number) => number as u64,
-        TimestampAnswer::Timestamp(t) => t.0 / 0x1_0000_0000,
+        TimestampAnswer::Timestamp(t) => t.0 / Timestamp::SECOND,
     }
 }
 

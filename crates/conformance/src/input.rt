@@ -19,7 +19,7 @@ pub(crate) fn after(line: &[u8], count: usize) -> &[u8] {
 }
 
 pub(crate) fn timestamp(line: &[u8], at: usize) -> Timestamp {
-    Timestamp(number64(line, at))
+    Timestamp::from_units(number64(line, at))
 }
 
 fn phase(octet: u8) -> Phase {

@@ -1,55 +1,78 @@
 // Kiss codes: the reference identifier of a reply of stratum 0 (RFC 4330, section 8).
 ghost use mathlib.Core.Path.{_≡_};
-ghost use Rattle.kiss.specs.Kiss.{rowOf};
+ghost use lib.ListN.{take, drop};
+ghost use Rattle.kiss.specs.Kiss.{codeOf, names, rowIn, rowOf};
 
-// The four octets of each name as a number.
-const ACST: u32 = 0x4143_5354;
+// The four octets of a name as a reference identifier.
+pub fn code(name: &[u8; 4]) -> u32
+    ensures { λ r. ⌜ r ≡ codeOf (now (name .entry)) ⌝ }
+{
+    octets::join32(name[0], name[1], name[2], name[3])
+}
 
-const AUTH: u32 = 0x4155_5448;
+// The row of a code among the first seven names; 0 for any other code.
+fn first_rows(c: u32) -> u8
+    ensures { λ r. ⌜ r ≡ rowIn 1 (take 7 names) c ⌝ }
+{
+    if c == code(b"ACST") {
+        return 1;
+    }
+    if c == code(b"AUTH") {
+        return 2;
+    }
+    if c == code(b"AUTO") {
+        return 3;
+    }
+    if c == code(b"BCST") {
+        return 4;
+    }
+    if c == code(b"CRYP") {
+        return 5;
+    }
+    if c == code(b"DENY") {
+        return 6;
+    }
+    if c == code(b"DROP") {
+        return 7;
+    }
+    0
+}
 
-const AUTO: u32 = 0x4155_544F;
-
-const BCST: u32 = 0x4243_5354;
-
-const CRYP: u32 = 0x4352_5950;
-
-const DENY: u32 = 0x4445_4E59;
-
-const DROP: u32 = 0x4452_4F50;
-
-const RSTR: u32 = 0x5253_5452;
-
-pub const INIT: u32 = 0x494E_4954;
-
-const MCST: u32 = 0x4D43_5354;
-
-const NKEY: u32 = 0x4E4B_4559;
-
-const RATE: u32 = 0x5241_5445;
-
-const RMOT: u32 = 0x524D_4F54;
-
-const STEP: u32 = 0x5354_4550;
+// The same among the last seven.
+fn last_rows(c: u32) -> u8
+    ensures { λ r. ⌜ r ≡ rowIn 8 (drop 7 names) c ⌝ }
+{
+    if c == code(b"RSTR") {
+        return 8;
+    }
+    if c == code(b"INIT") {
+        return 9;
+    }
+    if c == code(b"MCST") {
+        return 10;
+    }
+    if c == code(b"NKEY") {
+        return 11;
+    }
+    if c == code(b"RATE") {
+        return 12;
+    }
+    if c == code(b"RMOT") {
+        return 13;
+    }
+    if c == code(b"STEP") {
+        return 14;
+    }
+    0
+}
 
 // The row of a code in document 01's list, from 1 on; 0 for any other code.
-pub fn row(code: u32) -> u8
-    ensures { λ r. ⌜ r ≡ rowOf code ⌝ }
+pub fn row(c: u32) -> u8
+    ensures { λ r. ⌜ r ≡ rowOf c ⌝ }
 {
-    match code {
-        ACST => 1,
-        AUTH => 2,
-        AUTO => 3,
-        BCST => 4,
-        CRYP => 5,
-        DENY => 6,
-        DROP => 7,
-        RSTR => 8,
-        INIT => 9,
-        MCST => 10,
-        NKEY => 11,
-        RATE => 12,
-        RMOT => 13,
-        STEP => 14,
-        _ => 0,
+    let n = first_rows(c);
+    if n != 0 {
+        return n;
     }
+    last_rows(c)
 }

@@ -58,10 +58,10 @@ fn read_fields(p: &[u8]) -> Fields
         root_delay: twos_complement::signed32(slices::number32(p, 4)),
         root_dispersion: slices::number32(p, 8),
         identifier: slices::number32(p, 12),
-        reference: Timestamp(slices::number64(p, 16)),
-        originate: Timestamp(slices::number64(p, 24)),
-        receive: Timestamp(slices::number64(p, 32)),
-        transmit: Timestamp(slices::number64(p, 40)),
+        reference: Timestamp::from_units(slices::number64(p, 16)),
+        originate: Timestamp::from_units(slices::number64(p, 24)),
+        receive: Timestamp::from_units(slices::number64(p, 32)),
+        transmit: Timestamp::from_units(slices::number64(p, 40)),
     }
 }
 

@@ -107,7 +107,7 @@ fn unsynchronised_fields(settings: Settings, request: Fields) -> Fields
         request,
         3,
         0,
-        kiss::INIT,
+        kiss::code(b"INIT"),
         Timestamp::ZERO,
         Timestamp::ZERO,
         Timestamp::ZERO,

@@ -25,7 +25,7 @@ fn show_call(next: Next) -> Client {
 
 fn show_ask(client: Client, packet: &mut [u8], clock: u64, uptime: u64) -> Client {
     text(b"ask: ");
-    show_call(client.ask(packet, 4, Timestamp(clock), uptime))
+    show_call(client.ask(packet, 4, Timestamp::from_units(clock), uptime))
 }
 
 fn show_give_up(client: Client, uptime: u64) -> Client {
@@ -56,7 +56,7 @@ fn show_answer(answer: ArrivalAnswer) {
 
 fn show_arrival(client: Client, packet: &[u8], t4: u64) -> Client {
     text(b"arrival: ");
-    let arrived = client.arrival(packet, Timestamp(t4));
+    let arrived = client.arrival(packet, Timestamp::from_units(t4));
     let answer = arrived.answer;
     show_answer(answer);
     arrived.client
@@ -98,8 +98,8 @@ fn show_reply(request: &[u8], synchronised: bool, buffer: &mut [u8]) {
         identifier: 0x4750_5300,
         reference: Timestamp::from_seconds(4, 0),
     };
-    let t2 = Timestamp(0x4_8000_0000);
-    let t3 = Timestamp(0x5_8000_0000);
+    let t2 = Timestamp::from_units(0x4_8000_0000);
+    let t3 = Timestamp::from_units(0x5_8000_0000);
     text(b"reply: ");
     match server::reply(settings, request, t2, t3, buffer) {
         ReplyAnswer::Refused(n) => refused(n),

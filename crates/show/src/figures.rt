@@ -12,8 +12,15 @@ use packet::FieldsAnswer;
 use precision::PrecisionAnswer;
 use timestamp::Timestamp;
 
+const SECOND: u64 = Timestamp::SECOND;
+
 fn show_offset(t1: u64, t2: u64, t3: u64, t4: u64) {
-    match offset::measure(Timestamp(t1), Timestamp(t2), Timestamp(t3), Timestamp(t4)) {
+    match offset::measure(
+        Timestamp::from_units(t1),
+        Timestamp::from_units(t2),
+        Timestamp::from_units(t3),
+        Timestamp::from_units(t4),
+    ) {
         OffsetAnswer::Refused(n) => refused(n),
         OffsetAnswer::Measured {
             offset,
@@ -104,13 +111,13 @@ fn show_packet(octets: &[u8]) {
 }
 
 pub(crate) fn run() {
-    show_offset(0x1_0000_0000, 0x1_0000_0000, 0x1_0000_0000, 0x1_0000_0000);
-    show_offset(0x1_0000_0000, 0x1_0000_0000, 0x1_0000_0000, 0x1_0000_0001);
-    show_offset(0x1_0000_0000, 0x1_0000_0000, 0x1_0000_0000, 0x11_0000_0000);
-    show_offset(0x1_0000_0000, 0x1_0000_0000, 0x1_0000_0000, 0x11_0000_0001);
-    show_offset(0x1_0000_0000, 0x1_0000_0000, 0x1_0000_0000, 0xFFFF_FFFF);
-    show_offset(0x1_0000_0000, 0x1_0000_0000, 0xFFFF_FFFF, 0x1_0000_0000);
-    show_offset(0x1_0000_0000, 0x1_0000_0000, 0x1_0000_0006, 0x1_0000_0005);
+    show_offset(SECOND, SECOND, SECOND, SECOND);
+    show_offset(SECOND, SECOND, SECOND, 0x1_0000_0001);
+    show_offset(SECOND, SECOND, SECOND, 0x11_0000_0000);
+    show_offset(SECOND, SECOND, SECOND, 0x11_0000_0001);
+    show_offset(SECOND, SECOND, SECOND, 0xFFFF_FFFF);
+    show_offset(SECOND, SECOND, 0xFFFF_FFFF, SECOND);
+    show_offset(SECOND, SECOND, 0x1_0000_0006, 0x1_0000_0005);
     show_offset(
         0xFFFF_FFFA_0000_0000,
         0x4_8000_0000,
@@ -129,7 +136,7 @@ pub(crate) fn run() {
     show_precision(1);
     show_precision(4295);
     show_precision(4096);
-    show_precision(0x1_0000_0000);
+    show_precision(SECOND);
     show_precision(0);
     show_packet(
         b"\x24\x01\x00\xEC\x00\x00\x00\x00\x00\x00\x00\x00GPS\x00\x00\x00\x00\x04\x00\x00\x00\x00\xFF\xFF\xFF\xFA\x00\x00\x00\x00\x00\x00\x00\x04\x80\x00\x00\x00\x00\x00\x00\x05\x80\x00\x00\x00",

@@ -17,13 +17,19 @@ use Rattle.packet.proofs.read_fields.Tie as tie
 returns : tie.Need-returns
 unfolding fieldsOf
 returns c =
-    let n40 = c .number644 in
-    let n32 = c .before .number643 in
-    let n24 = c .before .before .number642 in
-    let n16 = c .before .before .before .number64 in
-    let n12 = c .before .before .before .before .number323 in
-    let n8 = c .before .before .before .before .before .number322 in
-    let c4 = c .before .before .before .before .before .before in
+    let t40 = c .from-units4 in
+    let n40 = c .before .number644 in
+    let t32 = c .before .before .from-units3 in
+    let n32 = c .before .before .before .number643 in
+    let c24 = c .before .before .before .before in
+    let t24 = c24 .from-units2 in
+    let n24 = c24 .before .number642 in
+    let t16 = c24 .before .before .from-units in
+    let c16 = c24 .before .before .before in
+    let n16 = c16 .number64 in
+    let n12 = c16 .before .number323 in
+    let n8 = c16 .before .before .number322 in
+    let c4 = c16 .before .before .before in
     let s4 = c4 .signed32 in
     let n4 = c4 .before .number32 in
     let s3 = c4 .before .before .signed8 in
@@ -37,9 +43,13 @@ returns c =
       n4 .ensures ∙ room 4 4 (omega arith),
       n8 .ensures ∙ room 4 8 (omega arith),
       n12 .ensures ∙ room 4 12 (omega arith),
+      t16 .ensures,
       n16 .ensures ∙ room 8 16 (omega arith),
+      t24 .ensures,
       n24 .ensures ∙ room 8 24 (omega arith),
+      t32 .ensures,
       n32 .ensures ∙ room 8 32 (omega arith),
+      t40 .ensures,
       n40 .ensures ∙ room 8 40 (omega arith),
     )
 
@@ -53,6 +63,10 @@ read-fields-spec =
     (λ c. search needs)
     (λ c. search needs)
     (λ c. search needs)
+    (λ c κs. search needs)
+    (λ c κs. search needs)
+    (λ c κs. search needs)
+    (λ c κs. search needs)
     (λ c κs. search needs)
     (λ c κs. search needs)
     (λ c κs. search needs)

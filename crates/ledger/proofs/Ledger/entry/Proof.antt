@@ -3,7 +3,7 @@ use Prim.Native.Nat.{_^_, _<_, _≤_}
 use native.Mathlib.Omega.{arith}
 use mathlib.Core.Path.{_≡_, ap, sym, _∙_}
 use mathlib.Core.Bool.{true, false}
-use lib.IntN.{natAbs, _+ℤ_}
+use lib.IntN.{ℤ, natAbs, _+ℤ_}
 use mir.Syntax.{w64}
 use mir.Val.{SFits}
 use mir.Facts.{toZ-ofZ}
@@ -19,9 +19,12 @@ legal c =
     let d : SFits w64 (c .before .before .args .self .debt) = search needs in
     c .too-much .ensures ∙ ap tooMuch (toZ-ofZ d)
 
-small : (c : tie.After-too-large) → c .too-large .result ≡ tooLarge (c .before .before .before .before .args .offset) (c .before .before .before .before .args .half)
+abbrev start : tie.After-too-large → tie.Start
+start c = c .before .before .before .before
+
+small : (c : tie.After-too-large) → c .too-large .result ≡ tooLarge (start c .args .offset) (start c .args .half)
 small c =
-    let s = c .before .before .before .before in
+    let s = start c in
     c .too-large .ensures ∙ ap (λ z. tooLarge z (s .args .half)) (toZ-ofZ (s .fits .offset))
 
 returns : tie.Need-returns
@@ -39,14 +42,17 @@ returns-2 c =
 
 half-units-requires : tie.Need-half-units-requires
 half-units-requires c κs =
-    let s = c .before .before .before .before .before in
+    let s = start (c .before) in
     let n = not-large (s .args .offset) (s .args .half) (sym (small (c .before)) ∙ c .if2 .left) in
     rw (toZ-ofZ (s .fits .offset)) (n .0, n .1)
 
 -- the entry in half units, and the sum
-units : (c : tie.After-half-units) → c .half-units .result ≡ halfUnits (c .before .before .before .before .before .before .args .offset) (c .before .before .before .before .before .before .args .half)
+abbrev entered : tie.Start → ℤ
+entered s = halfUnits (s .args .offset) (s .args .half)
+
+units : (c : tie.After-half-units) → c .half-units .result ≡ entered (start (c .before .before))
 units c =
-    let s = c .before .before .before .before .before .before in
+    let s = start (c .before .before) in
     c .half-units .ensures ∙ ap (λ z. halfUnits z (s .args .half)) (toZ-ofZ (s .fits .offset))
 
 sum-requires : tie.Need-sum-requires
@@ -61,14 +67,17 @@ sum-requires c κs =
     let m = not-much (s .args .self .debt) (sym (legal (l .before)) ∙ l .if1 .left) in
     rw (toZ-ofZ d, toZ-ofZ r, units h) (omega arith, omega arith)
 
-owed : (c : tie.After-sum) → c .sum .result ≡ c .before .before .before .before .before .before .before .before .args .self .debt +ℤ halfUnits (c .before .before .before .before .before .before .before .before .args .offset) (c .before .before .before .before .before .before .before .before .args .half)
+abbrev start-sum : tie.After-sum → tie.Start
+start-sum c = start (c .before .before .before .before)
+
+owed : (c : tie.After-sum) → c .sum .result ≡ start-sum c .args .self .debt +ℤ entered (start-sum c)
 owed c =
     let h = c .before .before in
-    let d : SFits w64 (h .before .before .before .before .before .before .args .self .debt) = search needs in
+    let d : SFits w64 (start-sum c .args .self .debt) = search needs in
     let r : SFits w64 (h .half-units .result) = search needs in
     c .sum .ensures ∙ (λ i. toZ-ofZ d i +ℤ (toZ-ofZ r ∙ units h) i)
 
-reached : (c : tie.After-too-much2) → c .too-much2 .result ≡ tooMuch (c .before .before .before .before .before .before .before .before .before .args .self .debt +ℤ halfUnits (c .before .before .before .before .before .before .before .before .before .args .offset) (c .before .before .before .before .before .before .before .before .before .args .half))
+reached : (c : tie.After-too-much2) → c .too-much2 .result ≡ tooMuch (start-sum (c .before) .args .self .debt +ℤ entered (start-sum (c .before)))
 reached c =
     let r : SFits w64 (c .before .sum .result) = search needs in
     c .too-much2 .ensures ∙ ap tooMuch (toZ-ofZ r ∙ owed (c .before))
