@@ -5,7 +5,7 @@ use lib.Dec.{leb, ltb}
 use Rattle.refusals.specs.Numbers.{timestamp-zero, no-such-date, outside-window}
 use Rattle.ordered_tests.specs.Tests.{Tests, _if_else_, otherwise, answer}
 use Rattle.timestamp.specs.declared.Timestamp.{Timestamp}
-use Rattle.timestamp.specs.Timestamp.{timestamp, fromSeconds, secondsOf, fractionOf, isZero}
+use Rattle.timestamp.specs.Timestamp.{fromSeconds, secondsOf, fractionOf, isZero}
 use Rattle.calendar.specs.Dates.{date, exists, secondsTo, dateAt}
 use Rattle.calendar.specs.declared.Date.{Date}
 use Rattle.calendar.specs.declared.DateAnswer.{DateAnswer}
@@ -59,20 +59,3 @@ timestampTests d =
 
 unfoldable pub timestampOf : Date → TimestampAnswer
 timestampOf d = answer TimestampAnswer.Refused (timestampTests d)
-
--- document 01's number and value of each answer; a value that is not named is zero
-abbrev pub numberInDate : DateAnswer → ℕ
-numberInDate (DateAnswer.Refused n) = n
-numberInDate (DateAnswer.Date d) = 0
-
-abbrev pub dateIn : DateAnswer → Date
-dateIn (DateAnswer.Refused n) = date 0 0 0 0 0 0 0
-dateIn (DateAnswer.Date d) = d
-
-abbrev pub numberInTimestamp : TimestampAnswer → ℕ
-numberInTimestamp (TimestampAnswer.Refused n) = n
-numberInTimestamp (TimestampAnswer.Timestamp t) = 0
-
-abbrev pub timestampIn : TimestampAnswer → Timestamp
-timestampIn (TimestampAnswer.Refused n) = timestamp 0
-timestampIn (TimestampAnswer.Timestamp t) = t

@@ -7,7 +7,7 @@ use Rattle.refusals.specs.Numbers.{timestamp-zero}
 use Rattle.timestamp.specs.declared.Timestamp.{Timestamp}
 use Rattle.timestamp.specs.Timestamp.{timestamp}
 use Rattle.calendar.specs.Dates.{date, exists, secondsTo}
-use Rattle.calendar.specs.Calendar.{inWindow, dateOf, timestampOf, numberInDate, numberInTimestamp}
+use Rattle.calendar.specs.Calendar.{inWindow, dateOf, timestampOf}
 use Rattle.calendar.specs.declared.Date.{Date}
 use Rattle.calendar.specs.declared.DateAnswer.{DateAnswer}
 use Rattle.calendar.specs.declared.TimestampAnswer.{TimestampAnswer}
@@ -30,9 +30,9 @@ pub record OneToOne : Type 0 where
   -- every timestamp but zero has a date
   pub dated : (t : Timestamp) → t .0 < 2 ^ 64 → (t ≡ timestamp 0 → ⊥) → (d : Date) × HasDate t d
   -- zero has none
-  pub zero-refused : numberInDate (dateOf (timestamp 0)) ≡ timestamp-zero
+  pub zero-refused : dateOf (timestamp 0) ≡ DateAnswer.Refused timestamp-zero
   -- every date that exists and is in the window has a timestamp, save one
   pub timestamped : (d : Date) → d .fraction < 2 ^ 32 → exists d ≡ true → inWindow (secondsTo d) ≡ true → (d ≡ eraStart → ⊥)
       → (t : Timestamp) × (t .0 < 2 ^ 64) × HasTimestamp d t
   -- and that one is the start of the second era
-  pub era-start-refused : numberInTimestamp (timestampOf eraStart) ≡ timestamp-zero
+  pub era-start-refused : timestampOf eraStart ≡ TimestampAnswer.Refused timestamp-zero

@@ -4,7 +4,6 @@ use mathlib.Core.Logic.{_≢_, _⊎_, inl, inr}
 use mathlib.Core.Bool.{Bool, true, false, not, _&&_, _||_}
 use mathlib.Core.List.{List}
 use Prim.Native.Nat.{ℕ, _+_, _≤_, _<_}
-use native.Mathlib.Omega.{arith}
 use lib.Dec.{T, leb, ltb, eqb}
 use lib.ListN.{length}
 use mir.Facts.{ltb-no, no-ltb, leb-no, no-leb, leb-yes, yes-leb, and-yes, yes-and, or-yes, or-no, T-not-not, eqb-yes, yes-eqb}

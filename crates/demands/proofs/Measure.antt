@@ -1,7 +1,7 @@
 -- The arithmetic of four timestamps meets its form.
 use Prim.Native.Nat.{_^_}
-use mathlib.Core.Path.{_≡_, refl}
-use mathlib.Core.Bool.{not, _||_}
+use mathlib.Core.Path.{refl}
+use mathlib.Core.Bool.{_||_}
 use native.Mathlib.Omega.{arith}
 use lib.IntN.{ℤ, pos, negℤ}
 use lib.Signed.{ltZ, _≤ℤ_, _<ℤ_}

@@ -20,7 +20,7 @@ orders = record {
   writing = λ x. record { in-table = refl; in-rules = refl };
   date = λ t. record { in-table = refl; in-rules = refl };
   timestamp = λ d. record { in-table = refl; in-rules = refl };
+  precisions = λ n. record { in-table = refl; in-rules = refl };
   entries = λ x. record { in-table = refl; in-rules = refl };
   ticks = λ x. record { in-table = refl; in-rules = refl };
-  precisions = λ n. refl;
 }

@@ -1,8 +1,6 @@
 -- The server's reply meets its form.
 use mathlib.Core.Path.{refl}
 use mathlib.Core.List.{_++_}
-use Prim.Native.Nat.{_≤_}
-use native.Mathlib.Omega.{arith}
 use lib.IntN.{pos, negℤ}
 use lib.ListN.{length, drop}
 use Rattle.ordered_tests.specs.Tests.{Tests, Given, answerOf, keptOf}

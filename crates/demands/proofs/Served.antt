@@ -30,7 +30,7 @@ use Rattle.client.specs.Calls.{ask, Outcome}
 use Rattle.demands.specs.Form.{refusal, Rules}
 use Rattle.demands.specs.Common.{notAvailable, IsPacket, Written}
 use Rattle.demands.specs.Legal.{Legal}
-use Rattle.demands.specs.Ask.{askRules, asked}
+use Rattle.demands.specs.Ask.{asked}
 use Rattle.demands.specs.Arrival.{matchRules}
 use Rattle.demands.specs.Reply.{Request, LegallySet, written}
 use Rattle.demands.specs.Behaviour.{client, reply, form, ours}

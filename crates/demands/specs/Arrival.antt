@@ -2,7 +2,7 @@
 use Prim.Native.Nat.{_≤_, _<_}
 use mathlib.Core.Path.{_≡_}
 use mathlib.Core.Logic.{_≢_}
-use lib.IntN.{pos, negℤ}
+use lib.IntN.{pos}
 use lib.Signed.{_≤ℤ_, _<ℤ_}
 use Rattle.refusals.specs.Numbers.{record-not-legal, packet-length-wrong, not-waiting, originate-mismatch, reply-mode-wrong, version-mismatch, own-clock-zero, server-unsynchronised, stratum-too-high, server-timestamp-zero, root-delay-out-of-range, root-dispersion-too-large}
 use Rattle.packet.specs.declared.Fields.{Fields}

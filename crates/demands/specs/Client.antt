@@ -6,7 +6,7 @@ use Rattle.numbers.specs.Octets.{octets}
 use Rattle.client.specs.declared.Client.{Client}
 use Rattle.client.specs.Calls as calls
 use Rattle.client.specs.Calls.{Call, ask, arrival, giveUp, lent, Result, Outcome}
-use Rattle.demands.specs.Form.{refusal, acceptance, kiss, Shown, refusedBy, telling, Rules, Form, Implementation}
+use Rattle.demands.specs.Form.{refusal, kiss, Shown, refusedBy, telling, Rules, Form, Implementation}
 use Rattle.demands.specs.Ask.{askRules}
 use Rattle.demands.specs.Arrival.{arrivalRules}
 use Rattle.demands.specs.GiveUp.{giveUpRules}

@@ -10,7 +10,7 @@ use Rattle.client.specs.Calls.{Call}
 use Rattle.lines.specs.Decoding.{decode}
 use Rattle.frames.specs.Frames.{Reply, Parsed, call, malformed, parsed, answerOctets}
 use Rattle.replay_lines.specs.Replay as replay
-use Rattle.demands.specs.Form.{refusal, acceptance, kiss, Shown, telling, Form, Implementation}
+use Rattle.demands.specs.Form.{refusal, kiss, Shown, telling, Form, Implementation}
 use Rattle.demands.specs.Wrapper.{Wrapper, wrapped}
 use Rattle.demands.specs.Client.{numbers, client}
 

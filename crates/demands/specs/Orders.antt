@@ -11,6 +11,7 @@ use Rattle.offset.specs.Offset.{offsetTests}
 use Rattle.packet.specs.Packet.{readTests, writeTests}
 use Rattle.calendar.specs.declared.Date.{Date}
 use Rattle.calendar.specs.Calendar.{dateTests, timestampTests}
+use Rattle.precision.specs.Precision.{precisionTests}
 use Rattle.client.specs.declared.Client.{Client}
 use Rattle.client.specs.Ask.{askTests}
 use Rattle.client.specs.Arrival.{arrivalTests}
@@ -18,7 +19,7 @@ use Rattle.client.specs.GiveUp.{giveUpTests}
 use Rattle.client.specs.Calls.{Ask, Arrival, GiveUp}
 use Rattle.server.specs.Server.{replyTests}
 use Rattle.ledger.specs.Ledger.{entryTests, tickTests}
-use Rattle.demands.specs.Form.{Rules, _unless_then_, _provided_else_, does, refuses, Form}
+use Rattle.demands.specs.Form.{Rules, _unless_then_, _provided_else_, does, refuses}
 use Rattle.demands.specs.Ask.{askRules}
 use Rattle.demands.specs.Arrival.{arrivalRules}
 use Rattle.demands.specs.GiveUp.{giveUpRules}
@@ -108,7 +109,6 @@ pub record Orders : Type 0 where
   pub writing : (x : Fill) → Both writeOrder (writeTests (x .buffer) (x .fields)) (write .rules x)
   pub date : (t : Timestamp) → Both dateOrder (dateTests t) (dates.date .rules t)
   pub timestamp : (d : Date) → Both timestampOrder (timestampTests d) (timestamps.timestamp .rules d)
+  pub precisions : (n : ℕ) → Both precisionOrder (precisionTests n) (precision .rules n)
   pub entries : (x : Entry) → Both entryOrder (entryTests (x .ledger) (x .offset) (x .half)) (entry .rules x)
   pub ticks : (x : Tick) → Both tickOrder (tickTests (x .ledger) (x .limit)) (tick .rules x)
-  -- the precision octet's table stands in its definition (precision/specs/Precision.antt)
-  pub precisions : (n : ℕ) → ofRules (precision .rules n) ≡ precisionOrder

@@ -41,20 +41,3 @@ offsetTests trip hold p q =
 -- document 01's first difference P = T2 - T1, second difference Q = T3 - T4
 unfoldable pub measured : (t1 t2 t3 t4 : Timestamp) → OffsetAnswer
 measured t1 t2 t3 t4 = answer Refused (offsetTests (t4 ⊖ t1) (t3 ⊖ t2) (t2 ⊖ t1) (t3 ⊖ t4))
-
--- document 01's number and values of an answer; what is not named is zero
-abbrev pub numberIn : OffsetAnswer → ℕ
-numberIn (Refused n) = n
-numberIn (Measured offset half delay) = 0
-
-abbrev pub offsetIn : OffsetAnswer → ℤ
-offsetIn (Refused n) = pos 0
-offsetIn (Measured offset half delay) = offset
-
-abbrev pub halfIn : OffsetAnswer → ℕ
-halfIn (Refused n) = 0
-halfIn (Measured offset half delay) = half
-
-abbrev pub delayIn : OffsetAnswer → ℤ
-delayIn (Refused n) = pos 0
-delayIn (Measured offset half delay) = delay

@@ -157,7 +157,6 @@ round-trips = record {
   fields-back = λ b f k long.
       (answer-written b f long (k .small), (rw (octets-written b f long (k .small), take-at (octetsOf f) (drop 48 b) 48 (length-octetsOf f), length-octetsOf f, fieldsOf-octetsOf f k)));
   first-48-read = λ p q l e. (rw (l, ← fieldsOf-take p, e, fieldsOf-take q));
-  number-read = λ p. either (wrongLength p) (λ t. rw t) (λ t. rw t);
   rest-kept = λ b f. by-cases b f (λ l. drop 48 l ≡ drop 48 b) refl (λ long. drop-at (octetsOf f) (drop 48 b) 48 (length-octetsOf f));
   length-kept = λ b f. by-cases b f (λ l. length l ≡ length b) refl (λ long. rw (length-append, length-octetsOf f, length-drop) (omega arith));
 }

@@ -74,11 +74,6 @@ readTests packet =
 abbrev pub readAnswer : List ℕ → FieldsAnswer
 readAnswer packet = answer FieldsAnswer.Refused (readTests packet)
 
--- the number that an answer gives the caller
-abbrev pub numberIn : FieldsAnswer → ℕ
-numberIn (FieldsAnswer.Refused n) = n
-numberIn (FieldsAnswer.Fields f) = 0
-
 -- a buffer with no room for a packet; a field that is too large to write
 abbrev pub tooShort : List ℕ → Bool
 tooShort buffer = ltb (length buffer) packetLength

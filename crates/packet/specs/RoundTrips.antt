@@ -6,11 +6,10 @@ use mathlib.Core.List.{List, _++_}
 use lib.ListN.{length, take, drop}
 use Rattle.numbers.specs.TwosComplement.{Fits}
 use Rattle.numbers.specs.Octets.{AreOctets}
-use Rattle.ordered_tests.specs.Tests.{number}
 use Rattle.packet.specs.declared.Fields.{Fields}
 use Rattle.packet.specs.declared.FieldsAnswer.{FieldsAnswer}
 use Rattle.packet.specs.declared.WriteAnswer.{WriteAnswer}
-use Rattle.packet.specs.Packet.{packetLength, readTests, readAnswer, numberIn, tooLarge, writeAnswer, written}
+use Rattle.packet.specs.Packet.{packetLength, readAnswer, tooLarge, writeAnswer, written}
 
 -- fields that writing does not refuse, each a value of its type
 pub record Legal (f : Fields) : Type 0 where
@@ -35,8 +34,6 @@ pub record RoundTrips : Type 0 where
       → (writeAnswer b f ≡ WriteAnswer.Written) × (readAnswer (take packetLength (written b f)) ≡ FieldsAnswer.Fields f)
   -- reading depends on the length and the first 48 octets alone: an authenticator is not read
   pub first-48-read : (p q : List ℕ) → length p ≡ length q → take packetLength p ≡ take packetLength q → readAnswer p ≡ readAnswer q
-  -- the number that reading gives the caller is the one of its tests
-  pub number-read : (p : List ℕ) → numberIn (readAnswer p) ≡ number (readTests p)
   -- writing leaves the octets past the 48th, and the length, as they were
   pub rest-kept : (b : List ℕ) (f : Fields) → drop packetLength (written b f) ≡ drop packetLength b
   pub length-kept : (b : List ℕ) (f : Fields) → length (written b f) ≡ length b

@@ -2,9 +2,9 @@
 use Prim.Native.Nat.{ℕ, zero, suc, _^_}
 use mathlib.Core.Bool.{cond, _||_}
 use lib.Dec.{eqb, leb, ltb}
-use lib.IntN.{ℤ, pos, _-ℤ_}
+use lib.IntN.{pos, _-ℤ_}
 use Rattle.refusals.specs.Numbers.{tick-out-of-range}
-use Rattle.ordered_tests.specs.Tests.{_if_else_, otherwise, answer}
+use Rattle.ordered_tests.specs.Tests.{Tests, _if_else_, otherwise, answer}
 use Rattle.precision.specs.declared.PrecisionAnswer.{PrecisionAnswer}
 use Rattle.precision.specs.declared.PrecisionAnswer.the-variants.{Refused, Precision}
 
@@ -14,17 +14,10 @@ least tick zero = zero
 least tick (suc n) = cond (leb tick (2 ^ least tick n)) (least tick n) (suc n)
 
 -- the exponent of the smallest power of two not below the tick; 2 ^ k units are 2 ^ (k - 32) seconds
+abbrev pub precisionTests : ℕ → Tests PrecisionAnswer
+precisionTests tick =
+    tick-out-of-range if eqb tick 0 || ltb (2 ^ 32) tick else
+    otherwise (Precision (pos (least tick 32) -ℤ pos 32))
+
 unfoldable pub precisionOf : ℕ → PrecisionAnswer
-precisionOf tick =
-    answer Refused
-    (tick-out-of-range if eqb tick 0 || ltb (2 ^ 32) tick else
-    otherwise (Precision (pos (least tick 32) -ℤ pos 32)))
-
--- document 01's number and value of an answer; a value that is not named is zero
-abbrev pub numberIn : PrecisionAnswer → ℕ
-numberIn (Refused n) = n
-numberIn (Precision p) = 0
-
-abbrev pub precisionIn : PrecisionAnswer → ℤ
-precisionIn (Refused n) = pos 0
-precisionIn (Precision p) = p
+precisionOf tick = answer Refused (precisionTests tick)

@@ -2,7 +2,8 @@
 use mathlib.Core.Path.{_≡_}
 use Prim.Native.Nat.{ℕ, _^_, _≤_, _<_}
 use lib.IntN.{pos, _-ℤ_}
-use Rattle.precision.specs.Precision.{precisionOf, numberIn, precisionIn}
+use Rattle.precision.specs.Precision.{precisionOf}
+use Rattle.precision.specs.declared.PrecisionAnswer.the-variants.{Precision}
 
 -- 2 ^ k is not below the tick, and every smaller power of two is
 pub record Smallest (tick k : ℕ) : Type 0 where
@@ -13,4 +14,4 @@ pub record Smallest (tick k : ℕ) : Type 0 where
 abbrev pub SmallestPower : Type 0
 SmallestPower =
     (tick : ℕ) → 1 ≤ tick → tick ≤ 2 ^ 32
-    → (k : ℕ) × Smallest tick k × (numberIn (precisionOf tick) ≡ 0) × (precisionIn (precisionOf tick) ≡ pos k -ℤ pos 32)
+    → (k : ℕ) × Smallest tick k × (precisionOf tick ≡ Precision (pos k -ℤ pos 32))

@@ -74,8 +74,3 @@ replied s request t2 t3 buffer = answer Refused (replyTests s request t2 t3 buff
 unfoldable pub repliedBuffer : Settings → List ℕ → (t2 t3 : Timestamp) → List ℕ → List ℕ
 repliedBuffer s request t2 t3 buffer =
     kept (replyTests s request t2 t3 buffer) buffer (octetsOf (replyFields s (fieldsOf request) t2 t3) ++ drop packetLength buffer)
-
--- document 01's number of an answer
-abbrev pub numberIn : ReplyAnswer → ℕ
-numberIn (Refused n) = n
-numberIn Written = 0

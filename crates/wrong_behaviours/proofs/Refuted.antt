@@ -1,6 +1,6 @@
 -- Each wrong program fails a demand.
 use Prim.Native.Nat.{ℕ, _^_}
-use mathlib.Core.Path.{_≡_, refl, sym, ap, subst, _∙_}
+use mathlib.Core.Path.{refl, sym, ap, subst, _∙_}
 use mathlib.Core.Logic.{_≢_}
 use mathlib.Core.Bool.{Bool, true, false, not, _&&_}
 use mathlib.Core.List.{List, [], _∷_}
@@ -24,8 +24,8 @@ use Rattle.packet.specs.Packet.{fieldsOf, octetsOf}
 use Rattle.calendar.specs.Gregorian.{leapDays, yearDays, monthDays, before, last}
 use Rattle.calendar.specs.Dates as dates
 use Rattle.calendar.specs.Dates.{date, daysTo, secondsTo, dateAt, yearOn, dayOfYear, monthOn, dayOfMonth}
-use Rattle.calendar.specs.Calendar.{dateOf, dateIn, secondsAt, start1900, start2036, windowStart, windowEnd, inWindow, eraSeconds, timestampOf, numberInTimestamp}
-use Rattle.precision.specs.Precision.{least, precisionOf, precisionIn}
+use Rattle.calendar.specs.Calendar.{dateOf, secondsAt, start1900, start2036, windowStart, windowEnd, inWindow, eraSeconds, timestampOf}
+use Rattle.precision.specs.Precision.{least, precisionOf}
 use Rattle.poll.specs.Poll.{tooSoon}
 use Rattle.client.specs.declared.Client.{Client}
 use Rattle.client.specs.Record.{fresh, isWaiting, illegal}
@@ -39,13 +39,13 @@ use Rattle.server.specs.declared.ReplyAnswer.{ReplyAnswer}
 use Rattle.server.specs.Server.{requestTests, replyFields}
 use Rattle.server.specs.Server as server
 use Rattle.ledger.specs.declared.Ledger.{Ledger}
-use Rattle.ledger.specs.Ledger.{tooMuch, tooLarge, entryTests, payment, tickTests, numberInEntry}
+use Rattle.ledger.specs.Ledger.{tooMuch, tooLarge, entryTests, payment, tickTests}
 use Rattle.lines.specs.Lines.{digitOf}
 use Rattle.frames.specs.Frames.{Reply, callOf}
 use Rattle.demands.specs.Form.{refusal, acceptance, Implementation}
 use Rattle.demands.specs.Client as clients
 use Rattle.demands.specs.Reply.{Request}
-use Rattle.demands.specs.Behaviour.{Behaviour, client, reply, form, ours}
+use Rattle.demands.specs.Behaviour.{client, reply, form, ours}
 use Rattle.demands.specs.Behaviour as behaviour
 use Rattle.demands.specs.Demand3.{Exchange, reading, T2, T3, T4, Orderly, theAsk, theArrival}
 use Rattle.demands.specs.Witnesses.{replay, settings, buffer, run}
@@ -54,7 +54,7 @@ use Rattle.demands.proofs.Form.{acceptance-shown, differs, unique}
 use Rattle.demands.proofs.Each.{each}
 use Rattle.demands.proofs.Witnesses.{orderly}
 use Rattle.wrong_behaviours.specs.Client.{refusing, alwaysWriting, takingNone, stayingWaiting, spending, kissFirst, unsignedTimes, rootUntested, negativeDelayUntested, dispersionSigned, rootSwapped, rootAfter15, fixing, measuring, zeroOffset, hugeDelay, halfLost, largeHalf, towardZero, halvedApart}
-use Rattle.wrong_behaviours.specs.Others.{neverReplying, wrongOriginate, replyingAnyway, readingNothing, writingNothing, fourthYearDates, fourthYearTimestamps, roundedDown, takingEntries, payingAll, refusingLines, droppingDigits, startingAfresh}
+use Rattle.wrong_behaviours.specs.Others.{neverReplying, wrongOriginate, fourthYearDates, fourthYearTimestamps, roundedDown, takingEntries, payingAll, refusingLines, droppingDigits, startingAfresh}
 use Rattle.wrong_behaviours.specs.Refuted.{withClient, withServer, Fails1, Fails2, Fails3, Refuted}
 use Rattle.wrong_behaviours.proofs.Exchanges.{slowBack, slowOut, bothOdd, otherServer, waiting, request, replied, with-root, tells-other, near, inBound, concluded, in-bound}
 
@@ -79,17 +79,17 @@ not-both (kiss code row) s t = s
 -- 1 March 2100
 every-fourth-year : Fails2 behaviour.date fourthYearDates
 unfolding dateOf secondsTo daysTo dateAt yearOn dayOfYear monthOn dayOfMonth leapDays yearDays monthDays before last secondsAt start2036
-every-fourth-year = differs (each behaviour.date .answers) (fromSeconds 2021563904 0) (λ o. eqb (dateIn o .month) 2) tt tt
+every-fourth-year = differs (each behaviour.date .answers) (fromSeconds 2021563904 0) (λ o. eqb (natAbs (getD (form behaviour.date .shown o .values) 1 (pos 0))) 2) tt tt
 
 -- 29 February 2100
 february-2100 : Fails2 behaviour.timestamp fourthYearTimestamps
 unfolding timestampOf dates.exists secondsTo daysTo leapDays yearDays monthDays before inWindow windowStart windowEnd eraSeconds start1900 start2036
-february-2100 = differs (each behaviour.timestamp .answers) (date 2100 2 29 0 0 0 0) (λ o. eqb (numberInTimestamp o) 0) tt tt
+february-2100 = differs (each behaviour.timestamp .answers) (date 2100 2 29 0 0 0 0) (λ o. eqb (form behaviour.timestamp .shown o .number) 0) tt tt
 
 -- a tick of 3 units, of which the smallest power of two not below is 4
 rounded-down : Fails2 behaviour.precision roundedDown
 unfolding precisionOf least
-rounded-down = differs (each behaviour.precision .answers) 3 (λ o. leZ (precisionIn o) (negsuc 30)) tt tt
+rounded-down = differs (each behaviour.precision .answers) 3 (λ o. leZ (getD (form behaviour.precision .shown o .values) 0 (pos 0)) (negsuc 30)) tt tt
 
 -- A3 and so many digits 0, of which 32 make a give-up
 abbrev giveUpLine : ℕ → List ℕ
@@ -118,7 +118,7 @@ owing debt = record { debt = debt }
 
 takes-every-entry : Fails2 behaviour.entry takingEntries
 unfolding entryTests tooMuch tooLarge
-takes-every-entry = differs (each behaviour.entry .answers) (record { ledger = owing (pos 0); offset = pos 0; half = 2 }) (λ o. eqb (numberInEntry (o .answer)) 0) tt tt
+takes-every-entry = differs (each behaviour.entry .answers) (record { ledger = owing (pos 0); offset = pos 0; half = 2 }) (λ o. eqb (form behaviour.entry .shown o .number) 0) tt tt
 
 pays-all : Fails2 behaviour.tick payingAll
 unfolding tickTests tooMuch payment

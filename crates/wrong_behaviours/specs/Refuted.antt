@@ -5,7 +5,7 @@ use lib.IntN.{ℤ}
 use Rattle.timestamp.specs.declared.Timestamp.{Timestamp}
 use Rattle.client.specs.declared.Client.{Client}
 use Rattle.client.specs.Calls.{Arrival, Call, Result}
-use Rattle.demands.specs.Form.{Form, Implementation, Refuses, Answers}
+use Rattle.demands.specs.Form.{Implementation, Refuses, Answers}
 use Rattle.demands.specs.Wrapper.{through}
 use Rattle.demands.specs.Client as clients
 use Rattle.demands.specs.Reply as replies
