@@ -13,7 +13,7 @@ use Rattle.refusals.specs.Numbers.{listed}
 use Rattle.ordered_tests.specs.Tests.{Tests, _if_else_, _when_else_, otherwise, Given, refused, answered}
 use Rattle.ordered_tests.specs.Tests as tests
 use Rattle.demands.specs.Form.{refusal, acceptance, kiss, Shown, refusedBy, Rules, _unless_then_, _provided_else_, does, refuses, Gives, Form, Implementation, outcome, Refuses, Answers}
-use Rattle.demands.proofs.Facts.{WhereTrue, WhereFalse, contradiction}
+use Rattle.ordered_tests.proofs.Reflection.{WhereTrue, WhereFalse, contradiction}
 use Rattle.demands.specs.Wrapper.{Wrapper, mapRules, rulesOf, wrapped, over, through}
 
 -- ---- rules give one thing

@@ -20,7 +20,7 @@ use Rattle.demands.specs.Wrapper.{over}
 use Rattle.demands.specs.Client as clients
 use Rattle.demands.specs.Client.{callRules, client}
 use Rattle.demands.specs.Line.{carried, carrying, shown, line, ours}
-use Rattle.demands.proofs.Facts.{contradiction}
+use Rattle.ordered_tests.proofs.Reflection.{contradiction}
 use Rattle.demands.proofs.Form.{Meets, Each, Accepted, ShownAs, numbered, number-in, outcome-in, either, acceptance-shown, kiss-shown, wrapped-meets, same-program}
 use Rattle.demands.proofs.Client.{client-meets}
 

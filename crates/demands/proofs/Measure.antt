@@ -13,7 +13,7 @@ use Rattle.offset.specs.declared.OffsetAnswer.{OffsetAnswer}
 use Rattle.offset.specs.Offset.{outOfRange, offsetTests, measured}
 use Rattle.demands.specs.Form.{Rules}
 use Rattle.demands.specs.Measure.{Four, P, Q, d, InRange, fourRules, measure, ours}
-use Rattle.demands.proofs.Facts.{WhereTrue, WhereFalse, negated, both}
+use Rattle.ordered_tests.proofs.Reflection.{WhereTrue, WhereFalse, negated, both}
 use Rattle.demands.proofs.Form.{Meets, Reflects, _and_, end, by, acceptance-shown, table-answers}
 
 pub not-negative : (z : ℤ) → WhereFalse (pos 0 ≤ℤ z) (negative z)

@@ -11,7 +11,8 @@ use Rattle.server.specs.declared.ReplyAnswer.{ReplyAnswer}
 use Rattle.server.specs.Server.{outOfRange, requestTests, replyTests, replyFields, replied, repliedBuffer}
 use Rattle.demands.specs.Common.{Written}
 use Rattle.demands.specs.Reply.{Request, LegallySet, reply, ours}
-use Rattle.demands.proofs.Facts.{WhereFalse, negated, both, guarded, is-true, at-least, equal, within, available, packet}
+use Rattle.ordered_tests.proofs.Reflection.{WhereFalse, negated, both, guarded, is-true, at-least, equal, within}
+use Rattle.demands.proofs.Facts.{available, packet}
 use Rattle.demands.proofs.Form.{Meets, _and_, end, by, acceptance-shown, table-answers}
 use Rattle.demands.proofs.Measure.{not-negative, at-most}
 

@@ -2,7 +2,7 @@
 use Prim.Native.Nat.{ℕ, zero, suc, _+_, _-_, _*_, _^_, _≤_, suc-le-suc}
 use native.Mathlib.Nat.{le-of-suc-le-suc, div-lt-iff-lt-mul}
 use native.Mathlib.Omega.{arith}
-use mathlib.Core.Path.{_≡_, refl, sym, ap, subst, _∙_}
+use mathlib.Core.Path.{_≡_, refl, sym, ap, subst}
 use mathlib.Core.Logic.{_↔_}
 use mathlib.Core.Bool.{true, false, not}
 use mathlib.Core.List.{List, [], _∷_}
@@ -11,7 +11,7 @@ use lib.IntN.{ℤ, pos, negsuc, _+ℤ_, _-ℤ_, natAbs}
 use borrow.Author.Tests.{leb-false, lt-leb}
 use mir.Facts.{and-yes}
 use Rattle.numbers.proofs.Whole.{whole, sum, minus}
-use Rattle.numbers.proofs.Machine.{is-false}
+use Rattle.ordered_tests.proofs.Reflection.{is-false}
 use Rattle.refusals.specs.Numbers.{record-not-legal, entry-too-large, debt-too-large, limit-out-of-range}
 use Rattle.ordered_tests.specs.Tests.{answerOf, between}
 use Rattle.ordered_tests.proofs.Tests.{by-rows}
@@ -51,7 +51,7 @@ module _ (l : Ledger) (ok : illegal l ≡ false) where
           λ _. refusal entry-too-large (λ z. omega arith),
           λ _. (
             λ _. refusal debt-too-large (λ z. omega arith),
-            λ t. record { balance = omega (arith, whole, sum (pos 0) d); legal = sym (is-false (tooMuch d) t); other = λ z. omega arith },
+            λ t. record { balance = omega (arith, whole, sum (pos 0) d); legal = is-false (tooMuch d) .from t; other = λ z. omega arith },
           ),
         ),
       )

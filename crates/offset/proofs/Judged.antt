@@ -1,5 +1,5 @@
 -- Laws behind the code of the tests: a comparison stands for the sign of a difference, and where no test holds the sums fit.
-use mathlib.Core.Path.{_≡_, refl}
+use mathlib.Core.Path.{_≡_, refl, sym}
 use mathlib.Core.Bool.{Bool, true, false, not}
 use Prim.Native.Nat.{_^_}
 use native.Mathlib.Omega.{arith}
@@ -9,9 +9,10 @@ use mir.Syntax.{w64}
 use mir.Val.{SFits}
 use mir.Facts.{or-no, T-not-not}
 use Rattle.numbers.proofs.Whole.{whole, sum, minus, neg, test-whole}
-use Rattle.numbers.proofs.Machine.{is-true, is-false, flags, fits-whole}
+use Rattle.numbers.proofs.Machine.{flags, fits-whole}
 use Rattle.ordered_tests.specs.Tests.{number}
 use Rattle.ordered_tests.proofs.Tests.{Passes, passed}
+use Rattle.ordered_tests.proofs.Reflection.{is-true, is-false}
 use Rattle.offset.specs.Offset.{outOfRange, offsetTests}
 
 -- trip < hold is the test of d below zero
@@ -19,8 +20,8 @@ pub lt-minus : (a b : ℤ) → ltZ a b ≡ ltZ (a -ℤ b) (pos 0)
 lt-minus a b = go (ltZ a b) refl
   where
     go : (c : Bool) → ltZ a b ≡ c → c ≡ ltZ (a -ℤ b) (pos 0)
-    go true e = is-true (ltZ (a -ℤ b) (pos 0)) (omega (arith, whole, flags, minus a b))
-    go false e = is-false (ltZ (a -ℤ b) (pos 0)) (omega (arith, whole, flags, minus a b))
+    go true e = sym (is-true (ltZ (a -ℤ b) (pos 0)) .from (omega (arith, whole, flags, minus a b)))
+    go false e = sym (is-false (ltZ (a -ℤ b) (pos 0)) .from (omega (arith, whole, flags, minus a b)))
 
 -- where no test holds, P + Q and d fit 64 bits
 module _ (trip hold p q : ℤ) (t : SFits w64 trip) (h : SFits w64 hold) (none : number (offsetTests trip hold p q) ≡ 0) where

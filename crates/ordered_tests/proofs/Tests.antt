@@ -1,57 +1,13 @@
 -- Laws of tests in order, for any table.
-use mathlib.Core.Path.{_≡_, refl, sym, ap, _∙_, subst}
+use mathlib.Core.Path.{_≡_, refl, sym, ap, _∙_}
 use Prim.Native.Nat.{ℕ, zero, suc}
 use native.Mathlib.Omega.{arith}
-use mathlib.Core.Bool.{Bool, true, false, not, _&&_, _||_}
-use mathlib.Core.Logic.{_↔_}
-use lib.Dec.{T, eqb, ltb, ltb→lt}
+use mathlib.Core.Bool.{Bool, true, false, not, _&&_}
+use lib.Dec.{T, ltb, ltb→lt}
 use mir.Facts.{and-yes}
 use Rattle.ordered_tests.specs.Tests.{Tests, _if_else_, _when_else_, otherwise, Given, refused, answered, given, numberOf, number, answer, answerOf, kept, keptOf, carry}
 
 module _ {A : Type 0} where
-  -- the row k is the first whose test holds; the last row, `otherwise`, has none to fail
-  abbrev pub First : ℕ → Tests A → Type 0
-  First zero (n if b else rest) = T b
-  First zero (a when b else rest) = T b
-  First zero (otherwise a) = Unit {0}
-  First (suc k) (n if b else rest) = T (not b) × First k rest
-  First (suc k) (a when b else rest) = T (not b) × First k rest
-  First (suc k) (otherwise a) = ⊥
-
-  -- what the row k gives
-  abbrev pub row : ℕ → Tests A → Given A
-  row zero (n if b else rest) = refused n
-  row zero (a when b else rest) = answered a
-  row zero (otherwise a) = answered a
-  row (suc k) (n if b else rest) = row k rest
-  row (suc k) (a when b else rest) = row k rest
-  row (suc k) (otherwise a) = answered a
-
-  -- the first row whose test holds gives what the table gives
-  pub first : (k : ℕ) (t : Tests A) → First k t → given t ≡ row k t
-  first zero (n if true else rest) p = refl
-  first zero (n if false else rest) p = absurd p
-  first zero (a when true else rest) p = refl
-  first zero (a when false else rest) p = absurd p
-  first zero (otherwise a) p = refl
-  first (suc k) (n if true else rest) p = absurd (p .0)
-  first (suc k) (n if false else rest) p = first k rest (p .1)
-  first (suc k) (a when true else rest) p = absurd (p .0)
-  first (suc k) (a when false else rest) p = first k rest (p .1)
-  first (suc k) (otherwise a) p = absurd p
-
-  -- and there is one
-  pub some-first : (t : Tests A) → (k : ℕ) × First k t
-  some-first (n if true else rest) = (0, tt)
-  some-first (n if false else rest) = let s = some-first rest in (suc (s .0), (tt, s .1))
-  some-first (a when true else rest) = (0, tt)
-  some-first (a when false else rest) = let s = some-first rest in (suc (s .0), (tt, s .1))
-  some-first (otherwise a) = (0, tt)
-
-  -- exactly when: the table gives g where the first row that holds does, and only there
-  pub exactly : (t : Tests A) (g : Given A) → given t ≡ g → (k : ℕ) × (First k t × (row k t ≡ g))
-  exactly t g e = let s = some-first t in (s .0, (s .1, sym (first (s .0) t (s .1)) ∙ e))
-
   -- no test holds
   abbrev pub Passes : Tests A → Type 0
   Passes (n if b else rest) = T (not b) × Passes rest
@@ -70,30 +26,6 @@ module _ {A : Type 0} where
   passes (a when true else rest) p = absurd (p .0)
   passes (a when false else rest) p = passes rest (p .1)
   passes (otherwise a) p = refl
-
-  pub passes-number : (t : Tests A) → Passes t → number t ≡ 0
-  passes-number t p = ap numberOf (passes t p)
-
-  -- after a refusal state and buffers stay, and the caller sees its number
-  pub kept-refused : {B : Type 0} (t : Tests A) (n : ℕ) (old new : B) → given t ≡ refused n → kept t old new ≡ old
-  kept-refused t n old new e = rw e
-
-  pub number-refused : (t : Tests A) (n : ℕ) → given t ≡ refused n → number t ≡ n
-  number-refused t n e = rw e
-
-  -- every number of the table is one of which p holds
-  abbrev pub numbered : (ℕ → Bool) → Tests A → Bool
-  numbered p (n if b else rest) = p n && numbered p rest
-  numbered p (a when b else rest) = numbered p rest
-  numbered p (otherwise a) = true
-
-  -- and then so is the number of a refusal
-  pub refused-numbered : (p : ℕ → Bool) (t : Tests A) → T (numbered p t) → (n : ℕ) → given t ≡ refused n → T (p n)
-  refused-numbered p (m if true else rest) l n e = let s : m ≡ n = cc in subst (λ x. T (p x)) s (and-yes (p m) (numbered p rest) l .0)
-  refused-numbered p (m if false else rest) l n e = refused-numbered p rest (and-yes (p m) (numbered p rest) l .1) n e
-  refused-numbered p (a when true else rest) l n e = let z : _≡_ {A = ℕ} 0 1 = cc in absurd (omega arith)
-  refused-numbered p (a when false else rest) l n e = refused-numbered p rest l n e
-  refused-numbered p (otherwise a) l n e = let z : _≡_ {A = ℕ} 0 1 = cc in absurd (omega arith)
 
   -- a table of refusals alone, whose numbers are not 0: 0 is given exactly where no test holds, and any other number is a refusal's
   abbrev pub plain : Tests A → Bool
@@ -130,7 +62,15 @@ module _ {A : Type 0} where
 
   -- ---- a table in code: `if test { return NUMBER; }` a row, in the table's order, and 0 at the end
 
-  -- the test of the row k
+  -- what the row k gives, and its test; the last row has none to fail
+  abbrev pub row : ℕ → Tests A → Given A
+  row zero (n if b else rest) = refused n
+  row zero (a when b else rest) = answered a
+  row zero (otherwise a) = answered a
+  row (suc k) (n if b else rest) = row k rest
+  row (suc k) (a when b else rest) = row k rest
+  row (suc k) (otherwise a) = answered a
+
   abbrev pub test : ℕ → Tests A → Bool
   test zero (n if b else rest) = b
   test zero (a when b else rest) = b
@@ -219,49 +159,3 @@ module _ {A B : Type 0} where
   before-passed (n if false else rest) then l e = before-passed rest then (and-yes (ltb 0 n) (plain rest) l .1) e
   before-passed (a when b else rest) then l e = absurd l
   before-passed (otherwise a) then l e = refl
-
--- ---- what the caller sees: r says a refusal to the caller, and g is what is shown of an answer
-
-module _ {A : Type 0} where
-  -- every answer of the table has the property P
-  abbrev pub Each : (A → Type 0) → Tests A → Type 0
-  Each P (n if b else rest) = Each P rest
-  Each P (a when b else rest) = P a × Each P rest
-  Each P (otherwise a) = P a
-
-  -- no number of the table is 0
-  abbrev pub nonzero : Tests A → Bool
-  nonzero = numbered (ltb 0)
-
-  -- the number shown is the table's
-  pub number-shown : (of : A → ℕ) (say : ℕ → A) → ((k : ℕ) → of (say k) ≡ k) → (t : Tests A) → Each (λ a. of a ≡ 0) t → of (answer say t) ≡ number t
-  number-shown of say s (m if true else rest) e = s m
-  number-shown of say s (m if false else rest) e = number-shown of say s rest e
-  number-shown of say s (a when true else rest) e = e .0
-  number-shown of say s (a when false else rest) e = number-shown of say s rest (e .1)
-  number-shown of say s (otherwise a) e = e
-
-  -- and is 0 or has the property p, where every number of the table has
-  pub number-known : (p : ℕ → Bool) (t : Tests A) → T (numbered p t) → T (eqb (number t) 0 || p (number t))
-  number-known p (m if true else rest) l = either (eqb m 0) (p m) (and-yes (p m) (numbered p rest) l .0)
-    where
-      either : (a b : Bool) → T b → T (a || b)
-      either true b h = tt
-      either false b h = h
-  number-known p (m if false else rest) l = number-known p rest (and-yes (p m) (numbered p rest) l .1)
-  number-known p (a when true else rest) l = tt
-  number-known p (a when false else rest) l = number-known p rest l
-  number-known p (otherwise a) l = tt
-
-module _ {A R : Type 0} (g : A → R) (r : ℕ → R) (of : R → ℕ) (told : (k : ℕ) → of (r k) ≡ k) (say : ℕ → A) (shown : (k : ℕ) → g (say k) ≡ r k) where
-  -- the caller is told a refusal by n exactly when n is the number of the first test that holds
-  pub refused-by : (t : Tests A) → T (nonzero t) → Each (λ a. (k : ℕ) → g a ≡ r k → ⊥) t → (n : ℕ) → (g (answer say t) ≡ r n) ↔ ((number t ≡ n) × (n ≡ 0 → ⊥))
-  refused-by (m if true else rest) l e n = (
-    λ q. let s : m ≡ n = sym (told m) ∙ ap of (sym (shown m) ∙ q) ∙ told n in
-        (s, λ z. omega (arith, ltb→lt 0 m (and-yes (ltb 0 m) (nonzero rest) l .0))),
-    λ f. shown m ∙ ap r (f .0),
-  )
-  refused-by (m if false else rest) l e n = refused-by rest (and-yes (ltb 0 m) (nonzero rest) l .1) e n
-  refused-by (a when true else rest) l e n = (λ q. absurd (e .0 n q), λ f. absurd (f .1 (sym (f .0))))
-  refused-by (a when false else rest) l e n = refused-by rest l (e .1) n
-  refused-by (otherwise a) l e n = (λ q. absurd (e n q), λ f. absurd (f .1 (sym (f .0))))

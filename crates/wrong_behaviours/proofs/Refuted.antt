@@ -49,7 +49,7 @@ use Rattle.demands.specs.Behaviour.{client, reply, form, ours}
 use Rattle.demands.specs.Behaviour as behaviour
 use Rattle.demands.specs.Demand3.{Exchange, reading, T2, T3, T4, Orderly, theAsk, theArrival}
 use Rattle.demands.specs.Witnesses.{replay, settings, buffer, run}
-use Rattle.demands.proofs.Facts.{contradiction}
+use Rattle.ordered_tests.proofs.Reflection.{contradiction}
 use Rattle.demands.proofs.Form.{acceptance-shown, differs, unique}
 use Rattle.demands.proofs.Each.{each}
 use Rattle.demands.proofs.Witnesses.{orderly}
