@@ -1,72 +1,60 @@
 // Arrival: what the client makes of a packet that came in.
 ghost use mathlib.Core.Path.{_≡_};
 ghost use Rattle.ordered_tests.specs.Tests.{answer};
-ghost use Rattle.client.specs.Arrival.{refusedArrived, told, replyTests, arrived};
-use crate::ArrivalAnswer;
+ghost use Rattle.reply_checks.specs.declared.ArrivalAnswer.{ArrivalAnswer};
+ghost use Rattle.client.specs.Arrival.{waitingTests, arrivalAnswer, after, arrived};
 use crate::Arrived;
 use crate::Client;
 use crate::Phase;
 use packet::Fields;
 use packet::FieldsAnswer;
-use reply::Outcome;
+use reply_checks::ArrivalAnswer;
 use timestamp::Timestamp;
 
 impl Client {
-    fn refused(self, n: u8) -> Arrived
-        ensures { λ r. ⌜ r ≡ refusedArrived self n ⌝ }
-    {
-        let client = self;
-        Arrived {
-            answer: ArrivalAnswer::Refused(n),
-            client,
-        }
-    }
-
-    // A kiss stops the client for good; an accepted reply leaves it idle.
-    fn told(self, outcome: Outcome) -> Arrived
-        ensures { λ r. ⌜ r ≡ told self outcome ⌝ }
-    {
-        match outcome {
-            Outcome::Refused(n) => self.refused(n),
-            Outcome::Accepted {
-                offset,
-                half,
-                delay,
-            } => Arrived {
-                answer: ArrivalAnswer::Accepted {
-                    offset,
-                    half,
-                    delay,
-                },
-                client: self.without(Phase::Idle, 6),
-            },
-            Outcome::Kiss { code, row } => Arrived {
-                answer: ArrivalAnswer::Kiss { code, row },
-                client: self.without(Phase::Stopped, self.exponent),
-            },
-        }
-    }
-
-    fn judged(self, f: Fields, t4: Timestamp) -> Arrived
-        ensures { λ r. ⌜ r ≡ answer (refusedArrived self) (replyTests self f t4) ⌝ }
+    fn check_fields(self, f: Fields, t4: Timestamp) -> ArrivalAnswer
+        ensures { λ r. ⌜ r ≡ answer ArrivalAnswer.Refused (waitingTests self f t4) ⌝ }
     {
         let phase = self.phase;
         if !phase.is_waiting() {
-            return self.refused(refusals::NOT_WAITING);
+            return ArrivalAnswer::Refused(refusals::NOT_WAITING);
         }
-        self.told(reply::judge(self.transmit, self.version, f, t4))
+        reply_checks::check(self.transmit, self.version, f, t4)
+    }
+
+    fn check_packet(self, packet: &[u8], t4: Timestamp) -> ArrivalAnswer
+        ensures { λ r. ⌜ r ≡ arrivalAnswer self (now (packet .entry)) t4 ⌝ }
+    {
+        if self.illegal() {
+            return ArrivalAnswer::Refused(refusals::RECORD_NOT_LEGAL);
+        }
+        match packet::read(packet) {
+            FieldsAnswer::Refused(n) => ArrivalAnswer::Refused(n),
+            FieldsAnswer::Fields(f) => self.check_fields(f, t4),
+        }
+    }
+
+    // A kiss stops the client for good (RFC 4330, section 8); an accepted reply leaves it idle.
+    fn after(self, answer: ArrivalAnswer) -> Client
+        ensures { λ r. ⌜ r ≡ after self answer ⌝ }
+    {
+        match answer {
+            ArrivalAnswer::Refused(n) => self,
+            ArrivalAnswer::Accepted {
+                offset,
+                half,
+                delay,
+            } => self.without(Phase::Idle, 6),
+            ArrivalAnswer::Kiss { code, row } => self.without(Phase::Stopped, self.exponent),
+        }
     }
 
     // Arrival: a packet has come in at the clock reading T4 (RFC 4330, section 5, the client's checks of a server reply).
     pub fn arrival(self, packet: &[u8], t4: Timestamp) -> Arrived
         ensures { λ r. ⌜ r ≡ arrived self (now (packet .entry)) t4 ⌝ }
     {
-        if self.illegal() {
-            return self.refused(refusals::RECORD_NOT_LEGAL);
-        }
-        match packet::read(packet) {
-            FieldsAnswer::Refused(n) => self.refused(n),
-            FieldsAnswer::Fields(f) => self.judged(f, t4),
-        }
+        let answer = self.check_packet(packet, t4);
+        let client = self.after(answer);
+        Arrived { answer, client }
     }
 }

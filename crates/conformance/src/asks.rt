@@ -6,10 +6,10 @@ use crate::input::record;
 use crate::input::timestamp;
 use crate::lent::filled;
 use crate::lent::lent_count;
-use client::ArrivalAnswer;
 use client::CallAnswer;
 use client::Client;
 use client::Next;
+use reply_checks::ArrivalAnswer;
 use slices::number64;
 
 fn called(next: Next) -> Answer {

@@ -12,11 +12,12 @@ use Rattle.precision.specs.Precision.{least, precisionOf}
 use Rattle.poll.specs.Poll.{tooSoon}
 use Rattle.client.specs.Record.{illegal}
 use Rattle.client.specs.Ask.{askTests, asked}
-use Rattle.client.specs.Arrival.{replyTests, arrived}
+use Rattle.client.specs.Arrival.{waitingTests, arrivalAnswer, arrived}
+use Rattle.reply_checks.specs.Checks.{checkTests}
 use Rattle.demands.specs.Figures.{done, _and_, figures, Figures}
 
 pub figures-hold : Figures
-unfolding figures measured offsetTests outOfRange floorHalf halfOf _⊖_ difference signed _modulo_ dateOf dateAt yearOn dayOfYear monthOn dayOfMonth secondsAt start1900 start2036 secondsTo daysTo before last yearDays monthDays leapDays precisionOf least asked askTests illegal tooSoon arrived replyTests fieldsOf
+unfolding figures measured offsetTests outOfRange floorHalf halfOf _⊖_ difference signed _modulo_ dateOf dateAt yearOn dayOfYear monthOn dayOfMonth secondsAt start1900 start2036 secondsTo daysTo before last yearDays monthDays leapDays precisionOf least asked askTests illegal tooSoon arrived arrivalAnswer waitingTests checkTests fieldsOf
 figures-hold =
     refl
     and refl

@@ -2,14 +2,15 @@
 use mathlib.Core.Path.{refl}
 use Rattle.offset.specs.Offset.{offsetTests}
 use Rattle.client.specs.Ask.{askTests}
-use Rattle.client.specs.Arrival.{replyTests}
+use Rattle.client.specs.Arrival.{waitingTests}
+use Rattle.reply_checks.specs.Checks.{checkTests}
 use Rattle.client.specs.GiveUp.{giveUpTests}
 use Rattle.server.specs.Server as server
 use Rattle.ledger.specs.Ledger.{entryTests, tickTests}
 use Rattle.demands.specs.Orders.{Orders}
 
 pub orders : Orders
-unfolding askTests replyTests offsetTests giveUpTests server.replyTests server.requestTests entryTests tickTests
+unfolding askTests waitingTests checkTests offsetTests giveUpTests server.replyTests server.requestTests entryTests tickTests
 orders = record {
   ask = λ c x. record { in-table = refl; in-rules = refl };
   arrival = λ c x. record { in-table = refl; in-rules = refl };

@@ -17,10 +17,12 @@ use Rattle.packet.specs.Packet.{wrongLength, fieldsOf}
 use Rattle.sanity.specs.Sanity.{useTests, rootDelayOutOfRange, rootDispersionTooLarge, rootTests}
 use Rattle.client.specs.declared.Client.{Client}
 use Rattle.client.specs.declared.Phase.the-variants.{Idle}
-use Rattle.client.specs.declared.Arrived.{Arrived}
+use Rattle.reply_checks.specs.declared.ArrivalAnswer.{ArrivalAnswer}
+use Rattle.reply_checks.specs.Checks.{matchTests, fromOffset}
+use Rattle.kiss.specs.Kiss.{rowOf}
 use Rattle.client.specs.Record.{isWaiting, illegal, without}
 use Rattle.client.specs.Ask.{request}
-use Rattle.client.specs.Arrival.{refusedArrived, kissed, settled, matchTests, arrivalTests}
+use Rattle.client.specs.Arrival.{arrivalTests, after}
 use Rattle.client.specs.Calls.{Arrival, Call, ask, arrival, giveUp, lent, Result, refused, done, accepted, kiss, Outcome, saidArrival, step}
 use Rattle.demands.specs.Form.{Implementation}
 use Rattle.demands.specs.Client.{client}
@@ -70,10 +72,13 @@ spending = arriving (λ c x. record {
 
 -- ---- at an arrival, by another table of tests
 
-abbrev testing : (Client → Arrival → Tests Arrived) → Implementation client
+abbrev testing : (Client → Arrival → Tests ArrivalAnswer) → Implementation client
 testing tests = arriving (λ c x.
-    let a = answer (refusedArrived c) (tests c x) in
-    record { result = saidArrival (a .answer); next = a .client; octets = x .packet })
+    let a = answer ArrivalAnswer.Refused (tests c x) in
+    record { result = saidArrival a; next = after c a; octets = x .packet })
+
+abbrev kissed : Fields → ArrivalAnswer
+kissed f = ArrivalAnswer.Kiss (f .identifier) (rowOf (f .identifier))
 
 -- it obeys a kiss before the originate test
 abbrev pub kissFirst : Implementation client
@@ -81,22 +86,24 @@ kissFirst = testing (λ c x.
     record-not-legal if illegal c else
     packet-length-wrong if wrongLength (x .packet) else
     not-waiting if not (isWaiting (c .phase)) else
-    kissed c (fieldsOf (x .packet) .identifier) when eqb (fieldsOf (x .packet) .stratum) 0 else
+    kissed (fieldsOf (x .packet)) when eqb (fieldsOf (x .packet) .stratum) 0 else
     arrivalTests c (x .packet) (x .t4))
 
 -- it makes other tests of the root fields and the four timestamps of a reply
-abbrev checking : (Client → Fields → Timestamp → Tests Arrived) → Implementation client
+abbrev checking : (Client → Fields → Timestamp → Tests ArrivalAnswer) → Implementation client
 checking rest = testing (λ c x.
+    let f = fieldsOf (x .packet) in
     record-not-legal if illegal c else
     packet-length-wrong if wrongLength (x .packet) else
-    matchTests c (fieldsOf (x .packet)) (
-    kissed c (fieldsOf (x .packet) .identifier) when eqb (fieldsOf (x .packet) .stratum) 0 else
-    useTests (fieldsOf (x .packet)) (x .t4) (rest c (fieldsOf (x .packet)) (x .t4))))
+    not-waiting if not (isWaiting (c .phase)) else
+    matchTests (c .transmit) (c .version) f (
+    kissed f when eqb (f .stratum) 0 else
+    useTests f (x .t4) (rest c f (x .t4))))
 
 -- the tests of the four timestamps, their differences taken so
-abbrev timed : (Timestamp → Timestamp → ℤ) → Client → Fields → Timestamp → Tests Arrived
+abbrev timed : (Timestamp → Timestamp → ℤ) → Client → Fields → Timestamp → Tests ArrivalAnswer
 timed less c f t4 =
-    carry (settled c) (offsetTests (less t4 (c .transmit)) (less (f .transmit) (f .receive)) (less (f .receive) (c .transmit)) (less (f .transmit) t4))
+    carry fromOffset (offsetTests (less t4 (c .transmit)) (less (f .transmit) (f .receive)) (less (f .receive) (c .transmit)) (less (f .transmit) t4))
 
 -- it compares timestamps as plain unsigned numbers
 abbrev pub unsignedTimes : Implementation client

@@ -1,12 +1,12 @@
--- `reply::from_offset` meets its contract, in each case of the measurement. Assumes nothing.
+-- `reply_checks::from_offset` meets its contract, in each case of the measurement. Assumes nothing.
 use mathlib.Core.Path.{sym, ap}
 use mir.Syntax.{w64}
 use mir.Val.{SFits}
 use mir.Facts.{toZ-ofZ}
 use borrow.Author.Needs.{needs}
-use Rattle.reply.specs.Reply.{fromOffset}
-use Rattle.reply.proofs.from_offset.Statement.{statement}
-use Rattle.reply.proofs.from_offset.Tie as tie
+use Rattle.reply_checks.specs.Checks.{fromOffset}
+use Rattle.reply_checks.proofs.from_offset.Statement.{statement}
+use Rattle.reply_checks.proofs.from_offset.Tie as tie
 
 returns : tie.Need-returns
 returns c = sym (ap fromOffset (c .before .answer .given .1))

@@ -1,14 +1,14 @@
--- `reply::first_mismatch` meets its contract: each return is at its row of the table. Assumes nothing.
+-- `reply_checks::first_refusal` meets its contract: each return is at its row of the table. Assumes nothing.
 use mathlib.Core.Path.{refl}
 use borrow.Author.Tests.{eq-eqb, ne-eqb}
 use Rattle.ordered_tests.specs.Tests.{Tests, pass}
 use Rattle.ordered_tests.proofs.Tests.{At, starts, goes-on, returned}
-use Rattle.reply.specs.Reply.{answersTests}
-use Rattle.reply.proofs.first_mismatch.Statement.{statement}
-use Rattle.reply.proofs.first_mismatch.Tie as tie
+use Rattle.reply_checks.specs.Checks.{matchTests}
+use Rattle.reply_checks.proofs.first_refusal.Statement.{statement}
+use Rattle.reply_checks.proofs.first_refusal.Tie as tie
 
 abbrev table : tie.Start → Tests (Unit {0})
-table s = answersTests (s .args .transmit) (s .args .version) (s .args .f) pass
+table s = matchTests (s .args .transmit) (s .args .version) (s .args .f) pass
 
 returns : tie.Need-returns
 returns c = returned (starts {t = table (c .before .before .before)}) (rw (ne-eqb _ _ (c .if1 .taken)))
@@ -28,5 +28,5 @@ returns-3 c = returned (at-2 (c .before .before)) (rw (ne-eqb _ _ (c .if3 .taken
 returns-4 : tie.Need-returns-4
 returns-4 c = returned (goes-on (at-2 (c .before .before)) (rw (eq-eqb _ _ (c .if3 .left)))) refl
 
-pub first-mismatch-spec : {M : Type 1} → statement M
-first-mismatch-spec = tie.close (tie.spec returns returns-2 returns-3 returns-4)
+pub first-refusal-spec : {M : Type 1} → statement M
+first-refusal-spec = tie.close (tie.spec returns returns-2 returns-3 returns-4)

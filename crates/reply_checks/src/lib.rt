@@ -1,21 +1,21 @@
-// What a server's reply tells the client whose request had this transmit timestamp and version (RFC 4330, section 5, the client's checks of a reply).
+// The checks of a server's reply to the request with this transmit timestamp and version (RFC 4330, section 5).
 ghost use mathlib.Core.Path.{_≡_};
 ghost use Rattle.ordered_tests.specs.Tests.{number, pass};
-ghost use Rattle.reply.specs.Reply.{answersTests, fromOffset, judged};
+ghost use Rattle.reply_checks.specs.Checks.{matchTests, fromOffset, checked};
 use offset::OffsetAnswer;
 use packet::Fields;
 use timestamp::Timestamp;
 
-// `code` is the reference identifier.
-pub enum Outcome {
+// What an arrival answers. `code` is the reference identifier.
+pub enum ArrivalAnswer {
     Refused(u8),
     Accepted { offset: i64, half: u8, delay: i64 },
     Kiss { code: u32, row: u8 },
 }
 
 // Whether the packet answers the request.
-fn first_mismatch(transmit: Timestamp, version: u8, f: Fields) -> u8
-    ensures { λ r. ⌜ r ≡ number (answersTests transmit version f pass) ⌝ }
+fn first_refusal(transmit: Timestamp, version: u8, f: Fields) -> u8
+    ensures { λ r. ⌜ r ≡ number (matchTests transmit version f pass) ⌝ }
 {
     if f.originate.0 != transmit.0 {
         return refusals::ORIGINATE_MISMATCH;
@@ -29,16 +29,16 @@ fn first_mismatch(transmit: Timestamp, version: u8, f: Fields) -> u8
     0
 }
 
-fn from_offset(answer: OffsetAnswer) -> Outcome
+fn from_offset(answer: OffsetAnswer) -> ArrivalAnswer
     ensures { λ r. ⌜ r ≡ fromOffset answer ⌝ }
 {
     match answer {
-        OffsetAnswer::Refused(n) => Outcome::Refused(n),
+        OffsetAnswer::Refused(n) => ArrivalAnswer::Refused(n),
         OffsetAnswer::Measured {
             offset,
             half,
             delay,
-        } => Outcome::Accepted {
+        } => ArrivalAnswer::Accepted {
             offset,
             half,
             delay,
@@ -47,21 +47,21 @@ fn from_offset(answer: OffsetAnswer) -> Outcome
 }
 
 // A reply of stratum 0 is a kiss-o'-death packet (RFC 4330, section 8).
-pub fn judge(transmit: Timestamp, version: u8, f: Fields, t4: Timestamp) -> Outcome
-    ensures { λ r. ⌜ r ≡ judged transmit version f t4 ⌝ }
+pub fn check(transmit: Timestamp, version: u8, f: Fields, t4: Timestamp) -> ArrivalAnswer
+    ensures { λ r. ⌜ r ≡ checked transmit version f t4 ⌝ }
 {
-    let n = first_mismatch(transmit, version, f);
+    let n = first_refusal(transmit, version, f);
     if n != 0 {
-        return Outcome::Refused(n);
+        return ArrivalAnswer::Refused(n);
     }
     if f.stratum == 0 {
         let code = f.identifier;
         let row = kiss::row(code);
-        return Outcome::Kiss { code, row };
+        return ArrivalAnswer::Kiss { code, row };
     }
     let n = sanity::first_refusal(f, t4);
     if n != 0 {
-        return Outcome::Refused(n);
+        return ArrivalAnswer::Refused(n);
     }
     from_offset(offset::measure(transmit, f.receive, f.transmit, t4))
 }

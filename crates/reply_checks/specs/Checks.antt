@@ -1,4 +1,4 @@
--- What a reply tells the client whose request had this transmit timestamp and version (document 01, "The client").
+-- The checks of a reply to the request with this transmit timestamp and version (document 01, "The client").
 use Prim.Native.Nat.{ℕ}
 use mathlib.Core.Bool.{not}
 use lib.Dec.{eqb}
@@ -11,29 +11,29 @@ use Rattle.offset.specs.Offset.{offsetTests}
 use Rattle.packet.specs.declared.Fields.{Fields}
 use Rattle.kiss.specs.Kiss.{rowOf}
 use Rattle.sanity.specs.Sanity.{useTests, rootTests}
-use Rattle.reply.specs.declared.Outcome.{Outcome}
-use Rattle.reply.specs.declared.Outcome.the-variants.{Refused, Accepted, Kiss}
+use Rattle.reply_checks.specs.declared.ArrivalAnswer.{ArrivalAnswer}
+use Rattle.reply_checks.specs.declared.ArrivalAnswer.the-variants.{Refused, Accepted, Kiss}
 
 -- the packet answers the request; then the rest
-abbrev pub answersTests : {A : Type 0} → Timestamp → ℕ → Fields → Tests A → Tests A
-answersTests transmit version f rest =
+abbrev pub matchTests : {A : Type 0} → Timestamp → ℕ → Fields → Tests A → Tests A
+matchTests transmit version f rest =
     originate-mismatch if not (eqb (f .originate .0) (transmit .0)) else
     reply-mode-wrong if not (eqb (f .mode) 4) else
     version-mismatch if not (eqb (f .version) version) else
     rest
 
-abbrev pub fromOffset : OffsetAnswer → Outcome
+abbrev pub fromOffset : OffsetAnswer → ArrivalAnswer
 fromOffset (OffsetAnswer.Refused n) = Refused n
 fromOffset (OffsetAnswer.Measured offset half delay) = Accepted offset half delay
 
 -- T1 is the request's transmit timestamp, T2 and T3 are the receive and the transmit timestamp of the reply
-unfoldable pub outcomeTests : Timestamp → ℕ → Fields → Timestamp → Tests Outcome
-outcomeTests transmit version f t4 =
-    answersTests transmit version f (
+unfoldable pub checkTests : Timestamp → ℕ → Fields → Timestamp → Tests ArrivalAnswer
+checkTests transmit version f t4 =
+    matchTests transmit version f (
     Kiss (f .identifier) (rowOf (f .identifier)) when eqb (f .stratum) 0 else
     useTests f t4 (
     rootTests f (
     carry fromOffset (offsetTests (t4 ⊖ transmit) (f .transmit ⊖ f .receive) (f .receive ⊖ transmit) (f .transmit ⊖ t4)))))
 
-unfoldable pub judged : Timestamp → ℕ → Fields → Timestamp → Outcome
-judged transmit version f t4 = answer Refused (outcomeTests transmit version f t4)
+unfoldable pub checked : Timestamp → ℕ → Fields → Timestamp → ArrivalAnswer
+checked transmit version f t4 = answer Refused (checkTests transmit version f t4)
