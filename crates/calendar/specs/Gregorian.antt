@@ -21,11 +21,11 @@ yearDays y = 365 + leapDays y
 
 -- January to December, in a year with so many leap days
 abbrev pub monthLengths : ℕ → List ℕ
-monthLengths leap = 31 ∷ (28 + leap) ∷ 31 ∷ 30 ∷ 31 ∷ 30 ∷ 31 ∷ 31 ∷ 30 ∷ 31 ∷ 30 ∷ 31 ∷ []
+monthLengths extra = 31 ∷ (28 + extra) ∷ 31 ∷ 30 ∷ 31 ∷ 30 ∷ 31 ∷ 31 ∷ 30 ∷ 31 ∷ 30 ∷ 31 ∷ []
 
 -- the days of the month m, counted from 1; a month that does not exist has none
 unfoldable pub monthDays : ℕ → ℕ → ℕ
-monthDays leap m = getD (0 ∷ monthLengths leap) m 0
+monthDays extra m = getD (0 ∷ monthLengths extra) m 0
 
 -- the days before the year or month n: those of all the years or months below it
 unfoldable pub before : (ℕ → ℕ) → ℕ → ℕ

@@ -40,9 +40,9 @@ pub(crate) fn year_on(n: u64) -> u64
 }
 
 // The length of a month. Up to July and from August on 31 and 30 take turns, February aside.
-fn month_days(leap: u64, month: u64) -> u64
-    requires { ⌜ leap < 2 ⌝ }
-    ensures { λ r. ⌜ r ≡ monthDays leap month ⌝ }
+fn month_days(extra: u64, month: u64) -> u64
+    requires { ⌜ extra < 2 ⌝ }
+    ensures { λ r. ⌜ r ≡ monthDays extra month ⌝ }
 {
     if 12 < month {
         return 0;
@@ -51,7 +51,7 @@ fn month_days(leap: u64, month: u64) -> u64
         return 0;
     }
     if month == 2 {
-        28 + leap
+        28 + extra
     } else {
         30 + (month + month / 8) % 2
     }
@@ -64,22 +64,22 @@ pub(crate) fn days_in_month(year: u64, month: u64) -> u64
 }
 
 // The days of the year before a month: 367/12 a month, as if February had 30 days.
-pub(crate) fn days_before_month(leap: u64, month: u64) -> u64
-    requires { ⌜ (leap < 2) × (0 < month) × (month < 13) ⌝ }
-    ensures { λ r. ⌜ (r ≡ before (monthDays leap) month) × (r < 366) ⌝ }
+pub(crate) fn days_before_month(extra: u64, month: u64) -> u64
+    requires { ⌜ (extra < 2) × (0 < month) × (month < 13) ⌝ }
+    ensures { λ r. ⌜ (r ≡ before (monthDays extra) month) × (r < 366) ⌝ }
 {
     let n = (367 * month - 362) / 12;
-    if month <= 2 { n } else { n + leap - 2 }
+    if month <= 2 { n } else { n + extra - 2 }
 }
 
 // The month of the day k after the start of a year, by the same count.
-pub(crate) fn month_on(leap: u64, k: u64) -> u64
-    requires { ⌜ (leap < 2) × (k < 365 + leap) ⌝ }
-    ensures { λ r. ⌜ (r ≡ last (monthDays leap) k 12) × (0 < r) × (r < 13) × (before (monthDays leap) r ≤ k) × (k < before (monthDays leap) r + 31) ⌝ }
+pub(crate) fn month_on(extra: u64, k: u64) -> u64
+    requires { ⌜ (extra < 2) × (k < 365 + extra) ⌝ }
+    ensures { λ r. ⌜ (r ≡ last (monthDays extra) k 12) × (0 < r) × (r < 13) × (before (monthDays extra) r ≤ k) × (k < before (monthDays extra) r + 31) ⌝ }
 {
-    if k < 59 + leap {
+    if k < 59 + extra {
         (12 * k + 373) / 367
     } else {
-        (12 * (k + 2 - leap) + 373) / 367
+        (12 * (k + 2 - extra) + 373) / 367
     }
 }

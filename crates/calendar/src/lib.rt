@@ -54,10 +54,10 @@ fn date_at(s: u64, fraction: u32) -> Date
 {
     let days = s / 86400;
     let year = gregorian::year_on(days);
-    let leap = gregorian::leap_days(year);
+    let extra = gregorian::leap_days(year);
     let day_of_year = days - gregorian::days_before_year(year);
-    let month = gregorian::month_on(leap, day_of_year);
-    let day = day_of_year - gregorian::days_before_month(leap, month) + 1;
+    let month = gregorian::month_on(extra, day_of_year);
+    let day = day_of_year - gregorian::days_before_month(extra, month) + 1;
     Date {
         year: year as u32,
         month: month as u8,
@@ -119,9 +119,9 @@ fn seconds_to(d: Date) -> u64
     ensures { λ r. ⌜ r ≡ secondsTo d ⌝ }
 {
     let year = d.year as u64;
-    let leap = gregorian::leap_days(year);
+    let extra = gregorian::leap_days(year);
     let days = gregorian::days_before_year(year)
-        + gregorian::days_before_month(leap, d.month as u64)
+        + gregorian::days_before_month(extra, d.month as u64)
         + (d.day as u64 - 1);
     ((days * 24 + d.hour as u64) * 60 + d.minute as u64) * 60 + d.second as u64
 }

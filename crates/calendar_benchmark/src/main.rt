@@ -4,9 +4,9 @@ ghost use Prim.Native.Nat.{_<_, _^_};
 use calendar::Date;
 use calendar::DateAnswer;
 use calendar::TimestampAnswer;
+use hex_encode::put_line;
 use libc::STDIN_FILENO;
 use libc::STDOUT_FILENO;
-use text::put_line;
 use timestamp::Timestamp;
 
 const COUNT: u64 = 10_000_000;
@@ -75,7 +75,7 @@ fn sum_of(which: u8) -> u64 {
 
 fn put_sum(out: &mut [u8], sum: u64) -> usize {
     let mut octets = [0u8; 8];
-    slices::put64(&mut octets, 0, sum);
+    slices::write_be64(&mut octets, 0, sum);
     put_line(out, 0, &octets)
 }
 

@@ -44,8 +44,11 @@ impl Client {
                 offset,
                 half,
                 delay,
-            } => self.without(Phase::Idle, 6),
-            ArrivalAnswer::Kiss { code, row } => self.without(Phase::Stopped, self.exponent),
+            } => self.without_request(Phase::Idle, 6),
+            ArrivalAnswer::Kiss { code, row } => self.without_request(
+                Phase::Stopped,
+                self.exponent,
+            ),
         }
     }
 

@@ -5,10 +5,10 @@ ghost use Prim.Native.Nat.{_≤_};
 ghost use lib.ListN.{length, drop};
 ghost use Rattle.ordered_tests.specs.Tests.{number};
 ghost use Rattle.packet.specs.Packet.{packetLength};
-ghost use Rattle.client.specs.Ask.{request, askTests, asked, askedBuffer};
+ghost use Rattle.client.specs.Ask.{request, askTests, afterAsk, afterAskBuffer};
 use crate::CallAnswer;
+use crate::Called;
 use crate::Client;
-use crate::Next;
 use crate::Phase;
 use ordered_tests::between;
 use packet::Fields;
@@ -41,7 +41,7 @@ fn write_request(buffer: &mut [u8], version: u8, clock: Timestamp)
 }
 
 impl Client {
-    fn ask_number(self, room: usize, version: u8, clock: Timestamp, uptime: u64) -> u8
+    fn first_ask_refusal(self, room: usize, version: u8, clock: Timestamp, uptime: u64) -> u8
         ensures { λ r. ⌜ r ≡ number (askTests self room version clock uptime) ⌝ }
     {
         let phase = self.phase;
@@ -70,19 +70,19 @@ impl Client {
     }
 
     // Ask: the client request of RFC 4330, section 5, is written into the buffer for the caller to send.
-    pub fn ask(self, buffer: &mut [u8], version: u8, clock: Timestamp, uptime: u64) -> Next
-        ensures answer { λ r. ⌜ r ≡ asked self (length (now (buffer .entry))) version clock uptime ⌝ }
-        ensures buffer { λ _. ⌜ now (buffer .exit) ≡ askedBuffer self (now (buffer .entry)) version clock uptime ⌝ }
+    pub fn ask(self, buffer: &mut [u8], version: u8, clock: Timestamp, uptime: u64) -> Called
+        ensures answer { λ r. ⌜ r ≡ afterAsk self (length (now (buffer .entry))) version clock uptime ⌝ }
+        ensures buffer { λ _. ⌜ now (buffer .exit) ≡ afterAskBuffer self (now (buffer .entry)) version clock uptime ⌝ }
     {
-        let n = self.ask_number(buffer.len(), version, clock, uptime);
+        let n = self.first_ask_refusal(buffer.len(), version, clock, uptime);
         if n != 0 {
-            return Next {
+            return Called {
                 answer: CallAnswer::Refused(n),
                 client: self,
             };
         }
         write_request(buffer, version, clock);
-        Next {
+        Called {
             answer: CallAnswer::Done,
             client: Client {
                 phase: Phase::Waiting,

@@ -3,14 +3,14 @@ ghost use mathlib.Core.Path.{_≡_};
 ghost use Rattle.ordered_tests.specs.Tests.{number};
 ghost use Rattle.client.specs.GiveUp.{giveUpTests, gaveUp};
 use crate::CallAnswer;
+use crate::Called;
 use crate::Client;
-use crate::Next;
 use crate::Phase;
 use poll::too_soon;
 use timestamp::Timestamp;
 
 impl Client {
-    fn give_up_number(self, uptime: u64) -> u8
+    fn first_give_up_refusal(self, uptime: u64) -> u8
         ensures { λ r. ⌜ r ≡ number (giveUpTests self uptime) ⌝ }
     {
         let phase = self.phase;
@@ -27,19 +27,19 @@ impl Client {
     }
 
     // Give up: the request has timed out, and the poll interval is doubled (RFC 4330, section 10).
-    pub fn give_up(self, uptime: u64) -> Next
+    pub fn give_up(self, uptime: u64) -> Called
         ensures { λ r. ⌜ r ≡ gaveUp self uptime ⌝ }
     {
-        let n = self.give_up_number(uptime);
+        let n = self.first_give_up_refusal(uptime);
         if n != 0 {
-            return Next {
+            return Called {
                 answer: CallAnswer::Refused(n),
                 client: self,
             };
         }
-        Next {
+        Called {
             answer: CallAnswer::Done,
-            client: self.without(Phase::Idle, poll::backed_off(self.exponent)),
+            client: self.without_request(Phase::Idle, poll::backed_off(self.exponent)),
         }
     }
 }

@@ -1,6 +1,6 @@
 // The phases, the fresh record, and which records are legal.
 ghost use mathlib.Core.Path.{_≡_};
-ghost use Rattle.client.specs.Record.{isIdle, isWaiting, isStopped, fresh, isFresh, illegal, without};
+ghost use Rattle.client.specs.Record.{isIdle, isWaiting, isStopped, fresh, isFresh, illegal, withoutRequest};
 use crate::Client;
 use crate::Phase;
 use ordered_tests::between;
@@ -80,8 +80,8 @@ impl Client {
     }
 
     // The record without a request.
-    pub(crate) fn without(self, phase: Phase, exponent: u8) -> Client
-        ensures { λ r. ⌜ r ≡ without self phase exponent ⌝ }
+    pub(crate) fn without_request(self, phase: Phase, exponent: u8) -> Client
+        ensures { λ r. ⌜ r ≡ withoutRequest self phase exponent ⌝ }
     {
         Client {
             phase,

@@ -48,7 +48,7 @@ impl Answer {
             return self;
         }
         let mut octets = self.octets;
-        slices::put64(&mut octets, at, x);
+        slices::write_be64(&mut octets, at, x);
         Answer {
             octets,
             count: at + count,

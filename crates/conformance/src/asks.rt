@@ -7,12 +7,12 @@ use crate::input::timestamp;
 use crate::lent::filled;
 use crate::lent::lent_count;
 use client::CallAnswer;
+use client::Called;
 use client::Client;
-use client::Next;
 use reply_checks::ArrivalAnswer;
-use slices::number64;
+use slices::read_be64;
 
-fn called(next: Next) -> Answer {
+fn called(next: Called) -> Answer {
     let answer = next.answer;
     let number = match answer {
         CallAnswer::Refused(number) => number,
@@ -26,7 +26,7 @@ pub(crate) fn ask(line: &[u8]) -> Answer {
     let n = lent_count(line, 21);
     let version = octet(line, 22);
     let clock = timestamp(line, 23);
-    let uptime = number64(line, 31);
+    let uptime = read_be64(line, 31);
     let client = record(line);
     let next = client.ask(&mut buffer[0..n], version, clock, uptime);
     called(next).with_lent(buffer, n)
@@ -64,7 +64,7 @@ pub(crate) fn arrival(line: &[u8]) -> Answer {
 
 pub(crate) fn give_up(line: &[u8]) -> Answer {
     let client = record(line);
-    called(client.give_up(number64(line, 21)))
+    called(client.give_up(read_be64(line, 21)))
 }
 
 pub(crate) fn fresh() -> Answer {

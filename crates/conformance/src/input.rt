@@ -2,8 +2,8 @@
 use client::Client;
 use client::Phase;
 use packet::Fields;
-use slices::number32;
-use slices::number64;
+use slices::read_be32;
+use slices::read_be64;
 use timestamp::Timestamp;
 
 pub(crate) fn octet(line: &[u8], at: usize) -> u8 {
@@ -19,7 +19,7 @@ pub(crate) fn after(line: &[u8], count: usize) -> &[u8] {
 }
 
 pub(crate) fn timestamp(line: &[u8], at: usize) -> Timestamp {
-    Timestamp::from_units(number64(line, at))
+    Timestamp::from_units(read_be64(line, at))
 }
 
 fn phase(octet: u8) -> Phase {
@@ -42,7 +42,7 @@ pub(crate) fn record(line: &[u8]) -> Client {
         transmit: timestamp(line, 2),
         version: octet(line, 10),
         asked: octet(line, 11) == 1,
-        uptime: number64(line, 12),
+        uptime: read_be64(line, 12),
         exponent: octet(line, 20),
     }
 }
@@ -56,9 +56,9 @@ pub(crate) fn fields(line: &[u8]) -> Fields {
         stratum: octet(line, 5),
         poll: octet(line, 6),
         precision: twos_complement::signed8(octet(line, 7)),
-        root_delay: twos_complement::signed32(number32(line, 8)),
-        root_dispersion: number32(line, 12),
-        identifier: number32(line, 16),
+        root_delay: twos_complement::signed32(read_be32(line, 8)),
+        root_dispersion: read_be32(line, 12),
+        identifier: read_be32(line, 16),
         reference: timestamp(line, 20),
         originate: timestamp(line, 28),
         receive: timestamp(line, 36),

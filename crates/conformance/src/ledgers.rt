@@ -4,18 +4,18 @@ use crate::input::octet;
 use ledger::EntryAnswer;
 use ledger::Ledger;
 use ledger::TickAnswer;
-use slices::number64;
+use slices::read_be64;
 use twos_complement::signed64;
 
 fn ledger_in(line: &[u8]) -> Ledger {
     Ledger {
-        debt: signed64(number64(line, 1)),
+        debt: signed64(read_be64(line, 1)),
     }
 }
 
 pub(crate) fn entry(line: &[u8]) -> Answer {
     let ledger = ledger_in(line);
-    let entered = ledger.entry(signed64(number64(line, 9)), octet(line, 17));
+    let entered = ledger.entry(signed64(read_be64(line, 9)), octet(line, 17));
     let answer = entered.answer;
     let number = match answer {
         EntryAnswer::Refused(number) => number,
@@ -34,7 +34,7 @@ fn paid(answer: TickAnswer) -> Answer {
 
 pub(crate) fn tick(line: &[u8]) -> Answer {
     let ledger = ledger_in(line);
-    let ticked = ledger.tick(number64(line, 9));
+    let ticked = ledger.tick(read_be64(line, 9));
     let answer = ticked.answer;
     paid(answer).with_signed64(ticked.ledger.debt)
 }

@@ -10,11 +10,11 @@ mod replies;
 mod times;
 
 use answers::Answer;
+use hex_decode::Line;
 use input::has_record;
 use input::octet;
 use lent::can_lend;
 use libc::STDIN_FILENO;
-use lines::Line;
 
 // The line so far, and where its answer goes.
 struct State {
@@ -52,7 +52,7 @@ fn answer_line(line: Line, octets: &[u8]) -> Answer {
     if octets.len() < count {
         return Answer::malformed();
     }
-    answer_to(&octets[0..count]).if_well_formed(line.is_whole())
+    answer_to(&octets[0..count]).if_well_formed(line.is_complete())
 }
 
 fn end_line(line: Line, octets: &[u8], out: &mut [u8], at: usize) -> usize {
@@ -64,7 +64,7 @@ fn take_all(start: State, characters: &[u8], octets: &mut [u8], out: &mut [u8]) 
     let mut at = start.at;
     let mut i = 0;
     while i < characters.len() {
-        let taken = line.take(octets, characters, i);
+        let taken = line.push_line(octets, characters, i);
         line = taken.line;
         i = taken.at;
         if i < characters.len() {

@@ -1,7 +1,7 @@
 // Answers as lines of hexadecimal in the output. A function here answers the index after what it puts.
 use crate::answers::Answer;
+use hex_encode::put_line;
 use libc::STDOUT_FILENO;
-use text::put_line;
 
 // From here on the output is written out before another line: the longest answer has 203 characters.
 const NEARLY_FULL: usize = 65536 - 256;

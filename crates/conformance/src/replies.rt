@@ -21,7 +21,7 @@ fn settings(line: &[u8]) -> Settings {
         synchronised: octet(line, 1) == 1,
         leap: octet(line, 2),
         precision: twos_complement::signed8(octet(line, 3)),
-        identifier: slices::number32(line, 4),
+        identifier: slices::read_be32(line, 4),
         reference: timestamp(line, 8),
     }
 }

@@ -7,8 +7,8 @@ use calendar::DateAnswer;
 use calendar::TimestampAnswer;
 use offset::OffsetAnswer;
 use precision::PrecisionAnswer;
-use slices::number32;
-use slices::number64;
+use slices::read_be32;
+use slices::read_be64;
 use timestamp::Timestamp;
 
 pub(crate) fn difference(line: &[u8]) -> Answer {
@@ -50,13 +50,13 @@ pub(crate) fn date(line: &[u8]) -> Answer {
 
 pub(crate) fn timestamp_of_date(line: &[u8]) -> Answer {
     let date = Date {
-        year: number32(line, 1),
+        year: read_be32(line, 1),
         month: octet(line, 5),
         day: octet(line, 6),
         hour: octet(line, 7),
         minute: octet(line, 8),
         second: octet(line, 9),
-        fraction: number32(line, 10),
+        fraction: read_be32(line, 10),
     };
     match calendar::timestamp_of_date(date) {
         TimestampAnswer::Refused(number) => Answer::number(number),
@@ -65,7 +65,7 @@ pub(crate) fn timestamp_of_date(line: &[u8]) -> Answer {
 }
 
 pub(crate) fn precision(line: &[u8]) -> Answer {
-    match precision::precision_of_tick(number64(line, 1)) {
+    match precision::precision_of_tick(read_be64(line, 1)) {
         PrecisionAnswer::Refused(number) => Answer::number(number),
         PrecisionAnswer::Precision(exponent) => Answer::number(0).with8(twos_complement::bits8(
             exponent,
@@ -81,7 +81,7 @@ pub(crate) fn constants() -> Answer {
 }
 
 pub(crate) fn halve(line: &[u8]) -> Answer {
-    let halves = offset::halve(twos_complement::signed64(number64(line, 1)));
+    let halves = offset::halve(twos_complement::signed64(read_be64(line, 1)));
     Answer::number(0)
         .with_signed64(halves.offset)
         .with8(halves.half)

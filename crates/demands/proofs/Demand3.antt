@@ -3,7 +3,7 @@ use mathlib.Core.Path.{_≡_, refl, sym, ap, subst, _∙_}
 use mathlib.Core.Logic.{inr}
 use native.Mathlib.Omega.{arith}
 use lib.IntN.{_+ℤ_}
-use Rattle.numbers.proofs.Whole.{whole}
+use Rattle.arithmetic.proofs.Integers.{integers}
 use Rattle.offset.proofs.Halving.{halving}
 use Rattle.packet.specs.declared.Fields.{Fields}
 use Rattle.packet.specs.Packet.{fieldsOf, octetsOf}
@@ -33,7 +33,7 @@ module _ (r : Run) (p : Premises ours r) where
 
   served : Served (r .client) x (r .settings) (T2 e) (T3 e) (r .replyBuffer)
   served = record {
-    asked = asked-is (r .client) x (p .asked);
+    asked = asked-is (r .client) x (p .ask-accepted);
     fits = reading-below (e .client) (e .sent);
     room = p .room;
     set = p .set;
@@ -79,7 +79,7 @@ module _ (r : Run) (p : Premises ours r) where
           (
             ((λ z. p .orderly .nonzero .1 (sym (ap (λ f. f .receive) of-reply) ∙ z)), (λ z. p .orderly .nonzero .2 (sym (ap (λ f. f .transmit) of-reply) ∙ z))),
             (
-              (let q = ap (λ f. f .«root_delay») of-reply in omega (arith, whole)),
+              (let q = ap (λ f. f .«root_delay») of-reply in omega (arith, integers)),
               (
                 (let q = ap (λ f. f .«root_dispersion») of-reply in omega arith),
                 subst (λ f. Passes (fourRules (with f) (does (accepted w y))) (accepted w y)) (sym of-reply) (timely-rules (accepted w y) refl),

@@ -4,10 +4,10 @@ use mathlib.Core.Path.{_≡_}
 use native.Mathlib.Omega.{arith}
 use lib.IntN.{ℤ, pos, natAbs, _+ℤ_, _-ℤ_}
 use lib.Signed.{_≤ℤ_}
-use Rattle.numbers.proofs.Whole.{up, dn, whole, sum, minus, neg, size, size-le, eq-whole}
-use Rattle.numbers.proofs.Modulo.{modulo-below}
-use Rattle.numbers.proofs.TwosComplement.{exact}
-use Rattle.timestamp.specs.Timestamp.{_⊖_}
+use Rattle.arithmetic.proofs.Integers.{up, dn, integers, sum, minus, neg, size, size-le, eq-integers}
+use Rattle.arithmetic.proofs.Modulo.{modulo-below}
+use Rattle.arithmetic.proofs.TwosComplement.{exact}
+use Rattle.timestamp.specs.Timestamp.{_since_}
 use Rattle.offset.specs.Offset.{floorHalf, halfOf}
 use Rattle.offset.specs.Halving.{twice}
 use Rattle.offset.proofs.Halving.{halving}
@@ -20,12 +20,12 @@ reading-below a t = modulo-below (t +ℤ a) (omega arith)
 
 -- the difference of two readings is that of the clocks' times, where that is in range; said in natural numbers
 abbrev Gap : ℤ → ℤ → ℤ → ℤ → Type 0
-Gap t a u b = up (reading a t ⊖ reading b u) + (dn t + dn a + up u + up b) ≡ (up t + up a + dn u + dn b) + dn (reading a t ⊖ reading b u)
+Gap t a u b = up (reading a t since reading b u) + (dn t + dn a + up u + up b) ≡ (up t + up a + dn u + dn b) + dn (reading a t since reading b u)
 
 gap : (t a u b : ℤ) → dn t + dn a + up u + up b ≤ up t + up a + dn u + dn b + 2 ^ 63 → up t + up a + dn u + dn b < dn t + dn a + up u + up b + 2 ^ 63 → Gap t a u b
-unfolding reading _⊖_
+unfolding reading _since_
 gap t a u b low high =
-    omega (arith, eq-whole (exact 64 (t +ℤ a) (u +ℤ b) (omega arith) (record { low = omega (arith, whole, times, neg (pos (2 ^ 63))); high = omega (arith, whole, times) })), times)
+    omega (arith, eq-integers (exact 64 (t +ℤ a) (u +ℤ b) (omega arith) (record { low = omega (arith, integers, times, neg (pos (2 ^ 63))); high = omega (arith, integers, times) })), times)
   where
     times : up ((t +ℤ a) -ℤ (u +ℤ b)) + (dn t + dn a + up u + up b) ≡ (up t + up a + dn u + dn b) + dn ((t +ℤ a) -ℤ (u +ℤ b))
     times = omega (arith, sum t a, sum u b, minus (t +ℤ a) (u +ℤ b))
@@ -52,22 +52,22 @@ module _ (e : Exchange) (o : Orderly e) where
       let limit = o .short in
       let a : up server + dn client < dn server + up client + (2 ^ 62 - 2 ^ 36) = omega (arith, size (server -ℤ client)) in
       let b : dn server + up client < up server + dn client + (2 ^ 62 - 2 ^ 36) = omega (arith, size (server -ℤ client)) in
-      let s : up arrived + dn sent ≤ up sent + dn arrived + 2 ^ 36 = omega (arith, whole, minus arrived sent) in
+      let s : up arrived + dn sent ≤ up sent + dn arrived + 2 ^ 36 = omega (arith, integers, minus arrived sent) in
       record {
         short = s;
         above = a;
         below = b;
-        total = gap arrived client sent client (omega (arith, whole)) (omega (arith, whole));
-        hold = gap answered server received server (omega (arith, whole)) (omega (arith, whole));
-        first = gap received server sent client (omega (arith, whole)) (omega (arith, whole));
-        second = gap answered server arrived client (omega (arith, whole)) (omega (arith, whole));
+        total = gap arrived client sent client (omega (arith, integers)) (omega (arith, integers));
+        hold = gap answered server received server (omega (arith, integers)) (omega (arith, integers));
+        first = gap received server sent client (omega (arith, integers)) (omega (arith, integers));
+        second = gap answered server arrived client (omega (arith, integers)) (omega (arith, integers));
       }
 
   -- every rule of the four readings holds
   pub record Timely : Type 0 where
-    pub arrived-after : pos 0 ≤ℤ (T4 e ⊖ T1 e)
-    pub within-limit : (T4 e ⊖ T1 e) ≤ℤ pos (2 ^ 36)
-    pub answered-after : pos 0 ≤ℤ (T3 e ⊖ T2 e)
+    pub arrived-after : pos 0 ≤ℤ (T4 e since T1 e)
+    pub within-limit : (T4 e since T1 e) ≤ℤ pos (2 ^ 36)
+    pub answered-after : pos 0 ≤ℤ (T3 e since T2 e)
     pub delay : pos 0 ≤ℤ d (readings e)
     pub ranges : InRange (P (readings e)) × InRange (Q (readings e))
 
@@ -77,14 +77,14 @@ module _ (e : Exchange) (o : Orderly e) where
       let out = o .outward in
       let held = o .hold in
       let back = o .back in
-      let m = minus (T4 e ⊖ T1 e) (T3 e ⊖ T2 e) in
+      let m = minus (T4 e since T1 e) (T3 e since T2 e) in
       let low = neg (pos (2 ^ 62)) in
       record {
-        arrived-after = omega (arith, whole);
-        within-limit = omega (arith, whole);
-        answered-after = omega (arith, whole);
-        delay = omega (arith, whole);
-        ranges = ((omega (arith, whole), omega (arith, whole)), (omega (arith, whole), omega (arith, whole)));
+        arrived-after = omega (arith, integers);
+        within-limit = omega (arith, integers);
+        answered-after = omega (arith, integers);
+        delay = omega (arith, integers);
+        ranges = ((omega (arith, integers), omega (arith, integers)), (omega (arith, integers), omega (arith, integers)));
       }
 
   -- twice the offset plus the half, less twice the true difference, is at most the delay in size
@@ -102,6 +102,6 @@ module _ (e : Exchange) (o : Orderly e) where
       let e₂ = sum D D in
       let e₃ = minus total-sum (twice D) in
       let e₄ = minus server client in
-      let e₅ = minus (T4 e ⊖ T1 e) (T3 e ⊖ T2 e) in
+      let e₅ = minus (T4 e since T1 e) (T3 e since T2 e) in
       let e₆ = neg (d (readings e)) in
-      rw (halving total-sum .exact) (size-le (total-sum -ℤ twice D) (d (readings e)) (omega (arith, whole)) (omega (arith, whole)))
+      rw (halving total-sum .exact) (size-le (total-sum -ℤ twice D) (d (readings e)) (omega (arith, integers)) (omega (arith, integers)))

@@ -1,8 +1,8 @@
 -- The figures hold, by computation.
 use mathlib.Core.Path.{refl}
-use Rattle.numbers.specs.Modulo.{_modulo_}
-use Rattle.numbers.specs.TwosComplement.{signed, difference}
-use Rattle.timestamp.specs.Timestamp.{_⊖_}
+use Rattle.arithmetic.specs.Modulo.{_modulo_}
+use Rattle.arithmetic.specs.TwosComplement.{signed, difference}
+use Rattle.timestamp.specs.Timestamp.{_since_}
 use Rattle.offset.specs.Offset.{floorHalf, halfOf, outOfRange, offsetTests, measured}
 use Rattle.packet.specs.Packet.{fieldsOf}
 use Rattle.calendar.specs.Gregorian.{leapDays, yearDays, monthDays, before, last}
@@ -11,13 +11,13 @@ use Rattle.calendar.specs.Calendar.{start1900, start2036, secondsAt, dateOf}
 use Rattle.precision.specs.Precision.{least, precisionOf}
 use Rattle.poll.specs.Poll.{tooSoon}
 use Rattle.client.specs.Record.{illegal}
-use Rattle.client.specs.Ask.{askTests, asked}
+use Rattle.client.specs.Ask.{askTests, afterAsk}
 use Rattle.client.specs.Arrival.{waitingTests, arrivalAnswer, arrived}
 use Rattle.reply_checks.specs.Checks.{checkTests}
 use Rattle.demands.specs.Figures.{done, _and_, figures, Figures}
 
 pub figures-hold : Figures
-unfolding figures measured offsetTests outOfRange floorHalf halfOf _⊖_ difference signed _modulo_ dateOf dateAt yearOn dayOfYear monthOn dayOfMonth secondsAt start1900 start2036 secondsTo daysTo before last yearDays monthDays leapDays precisionOf least asked askTests illegal tooSoon arrived arrivalAnswer waitingTests checkTests fieldsOf
+unfolding figures measured offsetTests outOfRange floorHalf halfOf _since_ difference signed _modulo_ dateOf dateAt yearOn dayOfYear monthOn dayOfMonth secondsAt start1900 start2036 secondsTo daysTo before last yearDays monthDays leapDays precisionOf least afterAsk askTests illegal tooSoon arrived arrivalAnswer waitingTests checkTests fieldsOf
 figures-hold =
     refl
     and refl

@@ -13,7 +13,7 @@ use Rattle.ordered_tests.specs.Tests.{Given, refused, answered}
 use Rattle.client.specs.declared.Client.{Client}
 use Rattle.client.specs.Calls as calls
 use Rattle.client.specs.Calls.{Call, ask, arrival, giveUp}
-use Rattle.lines.specs.Decoding.{decode}
+use Rattle.hex_decode.specs.Decoding.{decode}
 use Rattle.frames.specs.Frames as frames
 use Rattle.frames.specs.Frames.{Parsed, call, malformed, parsed}
 use Rattle.demands.specs.Wrapper.{over}

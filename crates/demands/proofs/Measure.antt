@@ -5,10 +5,10 @@ use mathlib.Core.Bool.{_||_}
 use native.Mathlib.Omega.{arith}
 use lib.IntN.{ℤ, pos, negℤ}
 use lib.Signed.{ltZ, _≤ℤ_, _<ℤ_}
-use Rattle.numbers.proofs.Whole.{whole}
+use Rattle.arithmetic.proofs.Integers.{integers}
 use Rattle.refusals.specs.Numbers.{arrived-before-sent, arrived-too-late, answered-before-received, delay-negative, difference-out-of-range}
 use Rattle.ordered_tests.specs.Tests.{Tests, _if_else_, answerOf}
-use Rattle.timestamp.specs.Timestamp.{constants, _⊖_, negative}
+use Rattle.timestamp.specs.Timestamp.{constants, _since_, negative}
 use Rattle.offset.specs.declared.OffsetAnswer.{OffsetAnswer}
 use Rattle.offset.specs.Offset.{outOfRange, offsetTests, measured}
 use Rattle.demands.specs.Form.{Rules}
@@ -17,13 +17,13 @@ use Rattle.ordered_tests.proofs.Reflection.{WhereTrue, WhereFalse, negated, bot
 use Rattle.demands.proofs.Form.{Meets, Reflects, _and_, end, by, acceptance-shown, table-answers}
 
 pub not-negative : (z : ℤ) → WhereFalse (pos 0 ≤ℤ z) (negative z)
-not-negative z = record { to = λ h. omega (arith, whole); from = λ t. omega (arith, whole) }
+not-negative z = record { to = λ h. omega (arith, integers); from = λ t. omega (arith, integers) }
 
 pub at-most : (z limit : ℤ) → WhereFalse (z ≤ℤ limit) (ltZ limit z)
-at-most z limit = record { to = λ h. omega (arith, whole); from = λ t. omega (arith, whole) }
+at-most z limit = record { to = λ h. omega (arith, integers); from = λ t. omega (arith, integers) }
 
 pub below : (z limit : ℤ) → WhereTrue (z <ℤ limit) (ltZ z limit)
-below z limit = record { to = λ h. omega (arith, whole); from = λ t. omega (arith, whole) }
+below z limit = record { to = λ h. omega (arith, integers); from = λ t. omega (arith, integers) }
 
 in-range : (z : ℤ) → WhereFalse (InRange z) (outOfRange z)
 unfolding outOfRange
@@ -32,22 +32,22 @@ in-range z = both (at-most (negℤ (pos (2 ^ 62))) z) (negated (below z (pos (2 
 -- the five tests, before any rest
 pub four-rows : {A O : Type 0} {say : A → O} {t : Tests A} {r : Rules O} (x : Four) → Reflects say t r
     → Reflects say
-    (arrived-before-sent if negative (x .t4 ⊖ x .t1) else
-    arrived-too-late if ltZ (constants .limit) (x .t4 ⊖ x .t1) else
-    answered-before-received if negative (x .t3 ⊖ x .t2) else
+    (arrived-before-sent if negative (x .t4 since x .t1) else
+    arrived-too-late if ltZ (constants .limit) (x .t4 since x .t1) else
+    answered-before-received if negative (x .t3 since x .t2) else
     delay-negative if negative (d x) else
     difference-out-of-range if outOfRange (P x) || outOfRange (Q x) else
     t) (fourRules x r)
 four-rows x rest =
-    not-negative (x .t4 ⊖ x .t1)
-    and at-most (x .t4 ⊖ x .t1) (pos (2 ^ 36))
-    and not-negative (x .t3 ⊖ x .t2)
+    not-negative (x .t4 since x .t1)
+    and at-most (x .t4 since x .t1) (pos (2 ^ 36))
+    and not-negative (x .t3 since x .t2)
     and not-negative (d x)
     and both (in-range (P x)) (in-range (Q x))
     and rest
 
 abbrev table : Four → Tests OffsetAnswer
-table x = offsetTests (x .t4 ⊖ x .t1) (x .t3 ⊖ x .t2) (P x) (Q x)
+table x = offsetTests (x .t4 since x .t1) (x .t3 since x .t2) (P x) (Q x)
 
 pub measure-meets : Meets measure ours
 unfolding measured offsetTests

@@ -4,7 +4,7 @@ use mathlib.Core.List.{_++_}
 use lib.IntN.{pos, negℤ}
 use lib.ListN.{length, drop}
 use Rattle.ordered_tests.specs.Tests.{Tests, Given, answerOf, keptOf}
-use Rattle.timestamp.specs.Timestamp.{_⊖_}
+use Rattle.timestamp.specs.Timestamp.{_since_}
 use Rattle.packet.specs.Packet.{fieldsOf, octetsOf}
 use Rattle.server.specs.declared.Settings.{Settings}
 use Rattle.server.specs.declared.ReplyAnswer.{ReplyAnswer}
@@ -49,7 +49,7 @@ reply-meets = record {
         and negated (within 1 4 (fieldsOf (x .request) .version))
         and legally-set (x .settings)
         and guarded synchronised (both (available (x .t2)) (available (x .t3)))
-        and guarded synchronised (not-negative (x .t3 ⊖ x .t2))
+        and guarded synchronised (not-negative (x .t3 since x .t2))
         and end refl;
   });
 }

@@ -10,10 +10,10 @@ use lib.IntN.{pos}
 use lib.ListN.{length, take, drop}
 use lib.Seq.{take-append-le, take-all}
 use lib.Signed.{_≤ℤ_}
-use Rattle.numbers.proofs.Whole.{whole, neg}
-use Rattle.numbers.proofs.Octets.{octets-mod}
+use Rattle.arithmetic.proofs.Integers.{integers, neg}
+use Rattle.arithmetic.proofs.Octets.{octets-mod}
 use Rattle.timestamp.specs.declared.Timestamp.{Timestamp}
-use Rattle.timestamp.specs.Timestamp.{timestamp, _⊖_}
+use Rattle.timestamp.specs.Timestamp.{timestamp, _since_}
 use Rattle.packet.specs.declared.Fields.{Fields}
 use Rattle.packet.specs.Packet.{fieldsOf, octetsOf}
 use Rattle.packet.specs.RoundTrips as round-trips
@@ -30,7 +30,7 @@ use Rattle.client.specs.Calls.{ask, Outcome}
 use Rattle.demands.specs.Form.{refusal, Rules}
 use Rattle.demands.specs.Common.{notAvailable, IsPacket, Written}
 use Rattle.demands.specs.Legal.{Legal}
-use Rattle.demands.specs.Ask.{asked}
+use Rattle.demands.specs.Ask.{requestSent}
 use Rattle.demands.specs.Arrival.{matchRules}
 use Rattle.demands.specs.Reply.{Request, LegallySet, written}
 use Rattle.demands.specs.Behaviour.{client, reply, form, ours}
@@ -45,7 +45,7 @@ pub record Asked (c : Client) (x : calls.Ask) : Type 0 where
   pub legal : Legal c
   pub version : (1 ≤ x .version) × (x .version ≤ 4)
   pub clock : x .clock ≢ notAvailable
-  pub is : ours .does client (c, ask x) ≡ asked c x
+  pub is : ours .does client (c, ask x) ≡ requestSent c x
 
 pub asked-is : (c : Client) (x : calls.Ask) → form client .shown (ours .does client (c, ask x)) .kind ≢ refusal → Asked c x
 asked-is c x accepted =
@@ -54,7 +54,7 @@ asked-is c x accepted =
       legal = legal;
       version = version;
       clock = clock;
-      is = done-so client-meets (c, ask x) (asked c x) (legal, (room, (version, (clock, (running, (free, (late, refl)))))));
+      is = done-so client-meets (c, ask x) (requestSent c x) (legal, (room, (version, (clock, (running, (free, (late, refl)))))));
     }
 
 -- ---- the 48 octets of fields
@@ -98,8 +98,8 @@ module _ (version : ℕ) (clock : Timestamp) (small : version ≤ 4) (fits : clo
     small = rw (le-ltb 7 version (omega arith));
     stratum = omega arith;
     poll = omega arith;
-    precision = record { low = omega (arith, whole); high = omega (arith, whole) };
-    «root_delay» = record { low = omega (arith, whole); high = omega (arith, whole) };
+    precision = record { low = omega (arith, integers); high = omega (arith, integers) };
+    «root_delay» = record { low = omega (arith, integers); high = omega (arith, integers) };
     «root_dispersion» = omega arith;
     identifier = omega arith;
     reference = omega arith;
@@ -121,8 +121,8 @@ module _ (version : ℕ) (clock : Timestamp) (small : version ≤ 4) (fits : clo
         small = rw (le-ltb 3 leap l, le-ltb 7 version (omega arith));
         stratum = st;
         poll = omega arith;
-        precision = record { low = let low = set .precision .0 in omega (arith, whole, neg (pos (2 ^ 7))); high = let high = set .precision .1 in omega (arith, whole) };
-        «root_delay» = record { low = omega (arith, whole); high = omega (arith, whole) };
+        precision = record { low = let low = set .precision .0 in omega (arith, integers, neg (pos (2 ^ 7))); high = let high = set .precision .1 in omega (arith, integers) };
+        «root_delay» = record { low = omega (arith, integers); high = omega (arith, integers) };
         «root_dispersion» = omega arith;
         identifier = omega arith;
         reference = omega arith;
@@ -139,7 +139,7 @@ pub record Served (c : Client) (x : calls.Ask) (s : Settings) (t2 t3 : Timestamp
   pub room : 48 ≤ length buffer
   pub set : LegallySet s
   pub available : s .synchronised ≡ true → (t2 ≢ notAvailable) × (t3 ≢ notAvailable)
-  pub hold : s .synchronised ≡ true → pos 0 ≤ℤ (t3 ⊖ t2)
+  pub hold : s .synchronised ≡ true → pos 0 ≤ℤ (t3 since t2)
 
 module _ {c : Client} {x : calls.Ask} {s : Settings} {t2 t3 : Timestamp} {buffer : List ℕ} (r : Served c x s t2 t3 buffer) where
   abbrev to : List ℕ → Request

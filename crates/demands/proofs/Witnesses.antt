@@ -7,12 +7,12 @@ use lib.Dec.{T, ltb, lit<, lit≤}
 use lib.IntN.{pos, natAbs, _-ℤ_}
 use lib.Signed.{leZ, leZ-yes}
 use mir.Facts.{and-yes}
-use Rattle.numbers.specs.Modulo.{_modulo_}
-use Rattle.numbers.specs.TwosComplement.{signed, difference}
-use Rattle.timestamp.specs.Timestamp.{isZero, _⊖_}
+use Rattle.arithmetic.specs.Modulo.{_modulo_}
+use Rattle.arithmetic.specs.TwosComplement.{signed, difference}
+use Rattle.timestamp.specs.Timestamp.{isZero, _since_}
 use Rattle.packet.specs.Packet.{fieldsOf}
 use Rattle.client.specs.Record.{illegal}
-use Rattle.client.specs.Ask.{askTests, asked}
+use Rattle.client.specs.Ask.{askTests, afterAsk}
 use Rattle.demands.specs.Form.{refusal}
 use Rattle.demands.specs.Behaviour.{Behaviour, client, form, ours}
 use Rattle.demands.specs.Demand3.{longestTrip, clocksApart, Exchange, reading, T1, T2, T3, T4, trueDifference, Orderly, theAsk, Premises}
@@ -25,7 +25,7 @@ pub premises : (b : Behaviour) (e : Exchange) → Orderly e → form client .sho
 unfolding fieldsOf
 premises b e o asked = record {
   orderly = o;
-  asked = asked;
+  ask-accepted = asked;
   synchronised = refl;
   set = record { leap = lit≤ tt; precision = (leZ-yes tt, leZ-yes tt) };
   room = lit≤ tt;
@@ -73,7 +73,7 @@ module _ (e : Exchange) where
       }
 
 pub witnesses : Witnesses
-unfolding asked askTests illegal reading _modulo_ _⊖_ difference signed
+unfolding afterAsk askTests illegal reading _modulo_ _since_ difference signed
 witnesses = record {
   replay-met = premises ours replay (orderly replay tt) (acceptance-shown .0);
   replay-read = (refl, refl, refl, refl);

@@ -10,7 +10,7 @@ use Rattle.packet.specs.Packet.{fieldsOf}
 use Rattle.kiss.specs.Kiss.{rowOf}
 use Rattle.client.specs.declared.Client.{Client}
 use Rattle.client.specs.declared.Phase.the-variants.{Idle, Waiting, Stopped}
-use Rattle.client.specs.Record.{without}
+use Rattle.client.specs.Record.{withoutRequest}
 use Rattle.client.specs.Calls as calls
 use Rattle.demands.specs.Form.{Rules, _unless_then_, _provided_else_, does}
 use Rattle.demands.specs.Common.{notAvailable, IsPacket}
@@ -27,10 +27,10 @@ module _ (c : Client) (x : calls.Arrival) where
 
   -- a kiss: its code and row, and the client is stopped for good
   abbrev pub kissed : calls.Outcome
-  kissed = record { result = calls.kiss (f .identifier) (rowOf (f .identifier)); next = without c Stopped (c .exponent); octets = x .packet }
+  kissed = record { result = calls.kiss (f .identifier) (rowOf (f .identifier)); next = withoutRequest c Stopped (c .exponent); octets = x .packet }
 
   abbrev pub accepted : calls.Outcome
-  accepted = record { result = calls.accepted (offset four) (half four) (d four); next = without c Idle 6; octets = x .packet }
+  accepted = record { result = calls.accepted (offset four) (half four) (d four); next = withoutRequest c Idle 6; octets = x .packet }
 
   -- the packet answers the client's request; then the rest
   abbrev pub matchRules : Rules calls.Outcome → Rules calls.Outcome

@@ -14,8 +14,8 @@ use Rattle.demands.specs.Form.{Rules, _unless_then_, does}
 use Rattle.demands.specs.Common.{notAvailable}
 use Rattle.demands.specs.Legal.{Legal}
 
-abbrev pub asked : Client → calls.Ask → calls.Outcome
-asked c x = record {
+abbrev pub requestSent : Client → calls.Ask → calls.Outcome
+requestSent c x = record {
   result = calls.done;
   next = waitingFor c (x .version) (x .clock) (x .uptime);
   octets = request (x .version) (x .clock) ++ drop 48 (x .buffer);
@@ -30,4 +30,4 @@ askRules c x =
     client-stopped unless c .phase ≢ Stopped then
     already-waiting unless c .phase ≢ Waiting then
     asked-too-soon unless (c .asked ≡ true → c .uptime + 2 ^ c .exponent ≤ x .uptime) then
-    does (asked c x)
+    does (requestSent c x)

@@ -2,7 +2,7 @@
 use Prim.Native.Nat.{ℕ}
 use mathlib.Core.List.{List, [], _∷_}
 use lib.IntN.{ℤ, pos}
-use Rattle.numbers.specs.Octets.{octets}
+use Rattle.arithmetic.specs.Octets.{octets}
 use Rattle.client.specs.declared.Client.{Client}
 use Rattle.client.specs.Calls as calls
 use Rattle.client.specs.Calls.{Call, ask, arrival, giveUp, lent, Result, Outcome}

@@ -9,7 +9,7 @@ use lib.Dec.{T}
 use lib.IntN.{ℤ, pos, natAbs, _+ℤ_, _-ℤ_}
 use lib.ListN.{length, take}
 use lib.Signed.{_≤ℤ_}
-use Rattle.numbers.specs.Modulo.{_modulo_}
+use Rattle.arithmetic.specs.Modulo.{_modulo_}
 use Rattle.refusals.specs.Numbers as numbers
 use Rattle.timestamp.specs.declared.Timestamp.{Timestamp}
 use Rattle.timestamp.specs.Timestamp.{timestamp}
@@ -133,7 +133,7 @@ module _ (b : Behaviour) where
 
     pub record Premises : Type 0 where
       pub orderly : Orderly e
-      pub asked : form client .shown theAsk .kind ≢ refusal  -- the ask is given any record, buffer, version and uptime, so long as it isn't refused
+      pub ask-accepted : form client .shown theAsk .kind ≢ refusal  -- the ask is given any record, buffer, version and uptime, so long as it isn't refused
       pub synchronised : r .settings .synchronised ≡ true
       pub set : LegallySet (r .settings)
       pub room : 48 ≤ length (r .replyBuffer)

@@ -7,8 +7,8 @@ use Rattle.refusals.specs.Numbers.{line-malformed}
 use Rattle.ordered_tests.specs.Tests.{Given, refused, answered}
 use Rattle.client.specs.declared.Client.{Client}
 use Rattle.client.specs.Calls.{Call}
-use Rattle.lines.specs.Decoding.{decode}
-use Rattle.frames.specs.Frames.{Reply, Parsed, call, malformed, parsed, answerOctets}
+use Rattle.hex_decode.specs.Decoding.{decode}
+use Rattle.frames.specs.Frames.{LineAnswer, Parsed, call, malformed, parsed, answerOctets}
 use Rattle.replay_lines.specs.Replay as replay
 use Rattle.demands.specs.Form.{refusal, kiss, Shown, telling, Form, Implementation}
 use Rattle.demands.specs.Wrapper.{Wrapper, wrapped}
@@ -29,7 +29,7 @@ shown (n ∷ rest) =
 abbrev pub carrying : Wrapper client
 carrying = record {
   Input = Client × List ℕ;
-  Outcome = Reply;
+  Outcome = LineAnswer;
   shown = λ o. shown (o .octets);
   refusal = λ (c, line) n. record { client = c; octets = n ∷ [] };
   read = λ (c, line). carried c (parsed (decode line));

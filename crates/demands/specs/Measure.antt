@@ -5,7 +5,7 @@ use lib.IntN.{ℤ, pos, negℤ, _+ℤ_, _-ℤ_}
 use lib.Signed.{_≤ℤ_, _<ℤ_}
 use Rattle.refusals.specs.Numbers.{arrived-before-sent, arrived-too-late, answered-before-received, delay-negative, difference-out-of-range}
 use Rattle.timestamp.specs.declared.Timestamp.{Timestamp}
-use Rattle.timestamp.specs.Timestamp.{_⊖_}
+use Rattle.timestamp.specs.Timestamp.{_since_}
 use Rattle.offset.specs.declared.OffsetAnswer.{OffsetAnswer}
 use Rattle.offset.specs.Offset.{floorHalf, halfOf, measured}
 use Rattle.demands.specs.Form.{Shown, refusedBy, telling, Rules, _unless_then_, does, Form, Implementation}
@@ -18,13 +18,13 @@ pub record Four : Type 0 where
 
 -- document 01's first difference P, second difference Q and delay d
 abbrev pub P : Four → ℤ
-P x = x .t2 ⊖ x .t1
+P x = x .t2 since x .t1
 
 abbrev pub Q : Four → ℤ
-Q x = x .t3 ⊖ x .t4
+Q x = x .t3 since x .t4
 
 abbrev pub d : Four → ℤ
-d x = (x .t4 ⊖ x .t1) -ℤ (x .t3 ⊖ x .t2)
+d x = (x .t4 since x .t1) -ℤ (x .t3 since x .t2)
 
 -- the offset is the greatest whole number not above (P + Q) / 2, and the half is what is left
 abbrev pub offset : Four → ℤ
@@ -40,9 +40,9 @@ InRange z = (negℤ (pos (2 ^ 62)) ≤ℤ z) × (z <ℤ pos (2 ^ 62))
 -- the rules of the four, and then the rest
 abbrev pub fourRules : {O : Type 0} → Four → Rules O → Rules O
 fourRules x rest =
-    arrived-before-sent unless pos 0 ≤ℤ (x .t4 ⊖ x .t1) then
-    arrived-too-late unless (x .t4 ⊖ x .t1) ≤ℤ pos (2 ^ 36) then
-    answered-before-received unless pos 0 ≤ℤ (x .t3 ⊖ x .t2) then
+    arrived-before-sent unless pos 0 ≤ℤ (x .t4 since x .t1) then
+    arrived-too-late unless (x .t4 since x .t1) ≤ℤ pos (2 ^ 36) then
+    answered-before-received unless pos 0 ≤ℤ (x .t3 since x .t2) then
     delay-negative unless pos 0 ≤ℤ d x then
     difference-out-of-range unless InRange (P x) × InRange (Q x) then
     rest

@@ -6,7 +6,7 @@ use mathlib.Core.List.{List, [], _∷_, _++_}
 use lib.ListN.{length}
 use Rattle.ordered_tests.specs.Tests.{Tests, _if_else_, _when_else_, otherwise}
 use Rattle.timestamp.specs.declared.Timestamp.{Timestamp}
-use Rattle.timestamp.specs.Timestamp.{_⊖_}
+use Rattle.timestamp.specs.Timestamp.{_since_}
 use Rattle.offset.specs.Offset.{offsetTests}
 use Rattle.packet.specs.Packet.{readTests, writeTests}
 use Rattle.calendar.specs.declared.Date.{Date}
@@ -104,7 +104,7 @@ pub record Orders : Type 0 where
   pub arrival : (c : Client) (x : Arrival) → Both arrivalOrder (arrivalTests c (x .packet) (x .t4)) (arrivalRules c x)
   pub give-up : (c : Client) (x : GiveUp) → Both giveUpOrder (giveUpTests c (x .uptime)) (giveUpRules c x)
   pub server : (x : Request) → Both replyOrder (replyTests (x .settings) (x .request) (x .t2) (x .t3) (x .buffer)) (reply .rules x)
-  pub four : (x : Four) → Both measureOrder (offsetTests (x .t4 ⊖ x .t1) (x .t3 ⊖ x .t2) (P x) (Q x)) (measure .rules x)
+  pub four : (x : Four) → Both measureOrder (offsetTests (x .t4 since x .t1) (x .t3 since x .t2) (P x) (Q x)) (measure .rules x)
   pub reading : (p : List ℕ) → Both readOrder (readTests p) (read .rules p)
   pub writing : (x : Fill) → Both writeOrder (writeTests (x .buffer) (x .fields)) (write .rules x)
   pub date : (t : Timestamp) → Both dateOrder (dateTests t) (dates.date .rules t)

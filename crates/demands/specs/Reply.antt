@@ -9,7 +9,7 @@ use lib.ListN.{length, drop}
 use lib.Signed.{_≤ℤ_}
 use Rattle.refusals.specs.Numbers.{buffer-too-short, packet-length-wrong, request-mode-wrong, request-version-unsupported, settings-out-of-range, server-timestamp-zero, answered-before-received}
 use Rattle.timestamp.specs.declared.Timestamp.{Timestamp}
-use Rattle.timestamp.specs.Timestamp.{_⊖_}
+use Rattle.timestamp.specs.Timestamp.{_since_}
 use Rattle.packet.specs.declared.Fields.{Fields}
 use Rattle.packet.specs.Packet.{fieldsOf, octetsOf}
 use Rattle.server.specs.declared.Settings.{Settings}
@@ -48,7 +48,7 @@ module _ (x : Request) where
       request-version-unsupported unless (1 ≤ f .version) × (f .version ≤ 4) then
       settings-out-of-range unless LegallySet (x .settings) then
       server-timestamp-zero unless (x .settings .synchronised ≡ true → (x .t2 ≢ notAvailable) × (x .t3 ≢ notAvailable)) then
-      answered-before-received unless (x .settings .synchronised ≡ true → pos 0 ≤ℤ (x .t3 ⊖ x .t2)) then
+      answered-before-received unless (x .settings .synchronised ≡ true → pos 0 ≤ℤ (x .t3 since x .t2)) then
       does written
 
 abbrev pub shown : ReplyAnswer → Shown

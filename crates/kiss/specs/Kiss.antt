@@ -7,7 +7,7 @@ use mathlib.Core.Bool.{cond}
 use mathlib.Core.List.{List, [], _∷_}
 use lib.Dec.{eqb}
 use lib.ListN.{getD}
-use Rattle.numbers.specs.Octets.{bigEndian}
+use Rattle.arithmetic.specs.Octets.{bigEndian}
 
 -- a kiss code as the number of its four octets
 abbrev pub codeOf : List ℕ → ℕ

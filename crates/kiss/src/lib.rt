@@ -7,7 +7,7 @@ ghost use Rattle.kiss.specs.Kiss.{codeOf, names, rowIn, rowOf};
 pub fn code(name: &[u8; 4]) -> u32
     ensures { λ r. ⌜ r ≡ codeOf (now (name .entry)) ⌝ }
 {
-    octets::join32(name[0], name[1], name[2], name[3])
+    octets::be32(name[0], name[1], name[2], name[3])
 }
 
 // The row of a code among the first seven names; 0 for any other code.

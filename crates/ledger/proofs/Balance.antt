@@ -10,14 +10,14 @@ use lib.Dec.{T, leb, leb→le}
 use lib.IntN.{ℤ, pos, negsuc, _+ℤ_, _-ℤ_, natAbs}
 use borrow.Author.Tests.{leb-false, lt-leb}
 use mir.Facts.{and-yes}
-use Rattle.numbers.proofs.Whole.{whole, sum, minus}
+use Rattle.arithmetic.proofs.Integers.{integers, sum, minus}
 use Rattle.ordered_tests.proofs.Reflection.{is-false}
 use Rattle.refusals.specs.Numbers.{record-not-legal, entry-too-large, debt-too-large, limit-out-of-range}
 use Rattle.ordered_tests.specs.Tests.{answerOf, between}
 use Rattle.ordered_tests.proofs.Tests.{by-rows}
 use Rattle.ledger.specs.declared.Ledger.{Ledger}
-use Rattle.ledger.specs.Ledger.{opened, halfUnits, tooMuch, illegal, entryTests, refusedEntry, payment, tickTests, refusedTick, numberInEntry, numberInTick}
-use Rattle.ledger.specs.Balance.{Call, entry, tick, next, addedBy, added, paidIn, paid, after, allAdded, allPaid, AllLegal, ticks, ceiling, Balance}
+use Rattle.ledger.specs.Ledger.{opened, halfUnits, debtTooLarge, illegal, entryTests, refusedEntry, payment, tickTests, refusedTick, numberInEntry, numberInTick}
+use Rattle.ledger.specs.Balance.{LedgerCall, entry, tick, next, addedBy, added, paidIn, paid, after, allAdded, allPaid, AllLegal, ticks, ceiling, Balance}
 use Rattle.ledger.specs.Balance as calls
 use Rattle.ledger.proofs.Payments.{leaves, pays}
 
@@ -32,16 +32,16 @@ record Kept (l : Ledger) (pays adds : ℤ) (left : Ledger) (number : ℕ) : Type
 module _ (l : Ledger) (ok : illegal l ≡ false) where
   -- a refusal changes nothing
   refusal : (n : ℕ) → (n ≡ record-not-legal → ⊥) → Kept l (pos 0) (pos 0) l n
-  refusal n ne = record { balance = omega (arith, whole, sum (pos 0) (l .debt), sum (l .debt) (pos 0)); legal = ok; other = ne }
+  refusal n ne = record { balance = omega (arith, integers, sum (pos 0) (l .debt), sum (l .debt) (pos 0)); legal = ok; other = ne }
 
   -- what a payment leaves is legal
-  left-legal : (limit : ℕ) → tooMuch (l .debt -ℤ payment (l .debt) limit) ≡ false
-  unfolding tooMuch
+  left-legal : (limit : ℕ) → debtTooLarge (l .debt -ℤ payment (l .debt) limit) ≡ false
+  unfolding debtTooLarge
   left-legal limit =
       lt-leb (2 ^ 50) (natAbs (l .debt -ℤ payment (l .debt) limit)) (omega (arith, leb-false (2 ^ 50) (natAbs (l .debt)) ok, leaves (l .debt) limit))
 
   -- row by row of the call's table
-  keeps : (c : Call) → Kept l (paid l c) (added l c) (next l c) (calls.numberOf l c)
+  keeps : (c : LedgerCall) → Kept l (paid l c) (added l c) (next l c) (calls.numberOf l c)
   unfolding entryTests tickTests
   keeps (entry offset half) =
       let d = l .debt +ℤ halfUnits offset half in
@@ -51,7 +51,7 @@ module _ (l : Ledger) (ok : illegal l ≡ false) where
           λ _. refusal entry-too-large (λ z. omega arith),
           λ _. (
             λ _. refusal debt-too-large (λ z. omega arith),
-            λ t. record { balance = omega (arith, whole, sum (pos 0) d); legal = is-false (tooMuch d) .from t; other = λ z. omega arith },
+            λ t. record { balance = omega (arith, integers, sum (pos 0) d); legal = is-false (debtTooLarge d) .from t; other = λ z. omega arith },
           ),
         ),
       )
@@ -62,7 +62,7 @@ module _ (l : Ledger) (ok : illegal l ≡ false) where
         λ t. absurd (subst T ok t),
         λ _. (
           λ _. refusal limit-out-of-range (λ z. omega arith),
-          λ _. record { balance = omega (arith, whole, minus d p, sum p (d -ℤ p), sum d (pos 0)); legal = left-legal limit; other = λ z. omega arith },
+          λ _. record { balance = omega (arith, integers, minus d p, sum p (d -ℤ p), sum d (pos 0)); legal = left-legal limit; other = λ z. omega arith },
         ),
       )
 
@@ -71,18 +71,18 @@ module _ (l : Ledger) (ok : illegal l ≡ false) where
 -- the balance of a first call, from debt to left, and of the rest of the calls, from left to end
 chain : (debt p a left ps xs end : ℤ) → p +ℤ left ≡ debt +ℤ a → ps +ℤ end ≡ left +ℤ xs → p +ℤ ps +ℤ end ≡ debt +ℤ (a +ℤ xs)
 chain debt p a left ps xs end first rest =
-    omega (arith, whole, sum p left, sum debt a, sum ps end, sum left xs, sum p ps, sum (p +ℤ ps) end, sum a xs, sum debt (a +ℤ xs))
+    omega (arith, integers, sum p left, sum debt a, sum ps end, sum left xs, sum p ps, sum (p +ℤ ps) end, sum a xs, sum debt (a +ℤ xs))
 
 -- from any legal ledger what was paid and is owed at the end is what was owed before and was added
-balanced-from : (l : Ledger) → illegal l ≡ false → (cs : List Call) → allPaid l cs +ℤ after l cs .debt ≡ l .debt +ℤ allAdded l cs
-balanced-from l ok [] = omega (arith, whole, sum (pos 0) (l .debt), sum (l .debt) (pos 0))
+balanced-from : (l : Ledger) → illegal l ≡ false → (cs : List LedgerCall) → allPaid l cs +ℤ after l cs .debt ≡ l .debt +ℤ allAdded l cs
+balanced-from l ok [] = omega (arith, integers, sum (pos 0) (l .debt), sum (l .debt) (pos 0))
 balanced-from l ok (c ∷ cs) =
     let k = keeps l ok c in
     let m = next l c in
     chain (l .debt) (paid l c) (added l c) (m .debt) (allPaid m cs) (allAdded m cs) (after m cs .debt) (k .balance) (balanced-from m (k .legal) cs)
 
 -- from any legal ledger the calls stay legal
-legal-from : (l : Ledger) → illegal l ≡ false → (cs : List Call) → (illegal (after l cs) ≡ false) × AllLegal l cs
+legal-from : (l : Ledger) → illegal l ≡ false → (cs : List LedgerCall) → (illegal (after l cs) ≡ false) × AllLegal l cs
 legal-from l ok [] = (ok, tt)
 legal-from l ok (c ∷ cs) = let k = keeps l ok c in let all = legal-from (next l c) (k .legal) cs in (all .0, (k .other, all .1))
 
@@ -120,9 +120,9 @@ module _ (limit : ℕ) (range : between 1 (2 ^ 32) limit ≡ true) where
       (λ e. c .1 (omega (arith, ap natAbs e)), λ e. size-zero (after l (ticks n limit) .debt) (omega (arith, c .0 e)))
 
 pub balance : Balance
-unfolding tooMuch
+unfolding debtTooLarge
 balance = record {
-  balanced = λ cs. omega (arith, whole, balanced-from opened refl cs, sum (pos 0) (allAdded opened cs));
+  balanced = λ cs. omega (arith, integers, balanced-from opened refl cs, sum (pos 0) (allAdded opened cs));
   stays-legal = legal-from opened refl;
   no-more = λ debt limit. omega (arith, pays debt limit, leaves debt limit);
   paid-off = λ l limit n ok range. pays-off limit range l n ok;

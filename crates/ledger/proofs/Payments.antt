@@ -6,7 +6,7 @@ use mathlib.Core.Bool.{true, false, true≢false}
 use borrow.Author.Tests.{ltb-true}
 use lib.IntN.{ℤ, pos, negsuc, negℤ, _-ℤ_, natAbs}
 use lib.Signed.{ltZ}
-use Rattle.numbers.proofs.Whole.{whole, minus, neg}
+use Rattle.arithmetic.proofs.Integers.{integers, minus, neg}
 use Rattle.ledger.specs.Ledger.{payment}
 
 -- the size of -n is n
@@ -18,12 +18,12 @@ size-neg (suc n) = refl
 pub leaves : (debt : ℤ) (limit : ℕ) → natAbs (debt -ℤ payment debt limit) ≡ natAbs debt - limit
 unfolding payment
 leaves (pos n) limit =
-    let left : pos n -ℤ payment (pos n) limit ≡ pos (n - limit) = omega (arith, whole, minus (pos n) (payment (pos n) limit)) in
+    let left : pos n -ℤ payment (pos n) limit ≡ pos (n - limit) = omega (arith, integers, minus (pos n) (payment (pos n) limit)) in
     ap natAbs left
 leaves (negsuc n) limit =
     let p = payment (negsuc n) limit in
     let r = suc n - limit in
-    let left : negsuc n -ℤ p ≡ negℤ (pos r) = omega (arith, whole, minus (negsuc n) p, neg (pos (min (suc n) limit)), neg (pos r)) in
+    let left : negsuc n -ℤ p ≡ negℤ (pos r) = omega (arith, integers, minus (negsuc n) p, neg (pos (min (suc n) limit)), neg (pos r)) in
     ap natAbs left ∙ size-neg r
 
 -- the size of what is paid
@@ -36,7 +36,7 @@ pays (negsuc n) limit = size-neg (min (suc n) limit)
 pub back : (debt : ℤ) (limit : ℕ) → ltZ debt (pos 0) ≡ true → pos 0 -ℤ pos (min (natAbs debt) limit) ≡ payment debt limit
 unfolding payment
 back (pos n) limit e = let no = ltb-true n 0 e in absurd (omega arith)
-back (negsuc n) limit e = let m = pos (min (suc n) limit) in omega (arith, whole, minus (pos 0) m, neg m)
+back (negsuc n) limit e = let m = pos (min (suc n) limit) in omega (arith, integers, minus (pos 0) m, neg m)
 
 pub on : (debt : ℤ) (limit : ℕ) → ltZ debt (pos 0) ≡ false → pos (min (natAbs debt) limit) ≡ payment debt limit
 unfolding payment

@@ -8,10 +8,10 @@ use borrow.Author.Tests.{leb-true, leb-false}
 use lib.Dec.{leb}
 use mir.Syntax.{w64}
 use mir.Val.{SFits}
-use Rattle.numbers.specs.TwosComplement.{bits}
-use Rattle.numbers.proofs.Whole.{up, dn, whole, sum, minus, size}
-use Rattle.numbers.proofs.Machine.{bits-ofZ, whole-fits}
-use Rattle.ledger.specs.Ledger.{halfUnits, tooMuch, tooLarge}
+use Rattle.arithmetic.specs.TwosComplement.{bits}
+use Rattle.arithmetic.proofs.Integers.{up, dn, integers, sum, minus, size}
+use Rattle.arithmetic.proofs.Machine.{bits-ofZ, integers-fits}
+use Rattle.ledger.specs.Ledger.{halfUnits, debtTooLarge, entryTooLarge}
 
 -- the bits of a number that is not negative are its size, and those of a negative one 2^64 less its size
 module _ (z : ℤ) (f : SFits w64 z) where
@@ -32,10 +32,10 @@ module _ (z : ℤ) (f : SFits w64 z) where
 -- a sum and a difference of numbers below 2^62 in size fit
 module _ (a b : ℤ) (h : natAbs a < 2 ^ 62) (k : natAbs b < 2 ^ 62) where
   pub sum-fits : SFits w64 (a +ℤ b)
-  sum-fits = whole-fits w64 (a +ℤ b) (omega (arith, whole, sum a b, size a, size b))
+  sum-fits = integers-fits w64 (a +ℤ b) (omega (arith, integers, sum a b, size a, size b))
 
   pub difference-fits : SFits w64 (a -ℤ b)
-  difference-fits = whole-fits w64 (a -ℤ b) (omega (arith, whole, minus a b, size a, size b))
+  difference-fits = integers-fits w64 (a -ℤ b) (omega (arith, integers, minus a b, size a, size b))
 
 -- ---- sizes of sums
 
@@ -52,12 +52,12 @@ double-size a h = omega (arith, sum a a, sum (a +ℤ a) (pos h), exact a, exact 
 
 -- ---- what a test that did not hold says
 
-pub not-much : (z : ℤ) → tooMuch z ≡ false → natAbs z < 2 ^ 50
-unfolding tooMuch
+pub not-much : (z : ℤ) → debtTooLarge z ≡ false → natAbs z < 2 ^ 50
+unfolding debtTooLarge
 not-much z e = leb-false (2 ^ 50) (natAbs z) e
 
-pub not-large : (offset : ℤ) (half : ℕ) → tooLarge offset half ≡ false → (natAbs offset ≤ 2 ^ 40) × (half ≤ 1) × (natAbs (halfUnits offset half) < 2 ^ 41)
-unfolding tooLarge
+pub not-large : (offset : ℤ) (half : ℕ) → entryTooLarge offset half ≡ false → (natAbs offset ≤ 2 ^ 40) × (half ≤ 1) × (natAbs (halfUnits offset half) < 2 ^ 41)
+unfolding entryTooLarge
 not-large offset half e = go (leb half 1) refl e
   where
     go : (t : Bool) → leb half 1 ≡ t → not (leb half 1) || leb (2 ^ 41) (natAbs (halfUnits offset half)) ≡ false

@@ -13,16 +13,16 @@ use Rattle.ledger.specs.declared.TickAnswer.{TickAnswer}
 use Rattle.ledger.specs.Ledger.{opened, halfUnits, illegal, entered, payment, ticked, numberInEntry, numberInTick}
 
 -- a call, with what it carries
-pub data Call : Type 0 where
-  entry : (offset : ℤ) (half : ℕ) → Call
-  tick : (limit : ℕ) → Call
+pub data LedgerCall : Type 0 where
+  entry : (offset : ℤ) (half : ℕ) → LedgerCall
+  tick : (limit : ℕ) → LedgerCall
 
 -- the number that a call gives, and the ledger that it hands back
-abbrev pub numberOf : Ledger → Call → ℕ
+abbrev pub numberOf : Ledger → LedgerCall → ℕ
 numberOf l (entry offset half) = numberInEntry (entered l offset half .answer)
 numberOf l (tick limit) = numberInTick (ticked l limit .answer)
 
-abbrev pub next : Ledger → Call → Ledger
+abbrev pub next : Ledger → LedgerCall → Ledger
 next l (entry offset half) = entered l offset half .ledger
 next l (tick limit) = ticked l limit .ledger
 
@@ -35,34 +35,34 @@ abbrev pub paidIn : TickAnswer → ℤ
 paidIn (TickAnswer.Refused n) = pos 0
 paidIn (TickAnswer.Paid paid) = paid
 
-abbrev pub added : Ledger → Call → ℤ
+abbrev pub added : Ledger → LedgerCall → ℤ
 added l (entry offset half) = addedBy (entered l offset half .answer) offset half
 added l (tick limit) = pos 0
 
-abbrev pub paid : Ledger → Call → ℤ
+abbrev pub paid : Ledger → LedgerCall → ℤ
 paid l (entry offset half) = pos 0
 paid l (tick limit) = paidIn (ticked l limit .answer)
 
 -- calls one after another, each with the ledger that the call before handed back: the ledger at their end, and the sums of what was added and paid
-abbrev pub after : Ledger → List Call → Ledger
+abbrev pub after : Ledger → List LedgerCall → Ledger
 after l [] = l
 after l (c ∷ cs) = after (next l c) cs
 
-abbrev pub allAdded : Ledger → List Call → ℤ
+abbrev pub allAdded : Ledger → List LedgerCall → ℤ
 allAdded l [] = pos 0
 allAdded l (c ∷ cs) = added l c +ℤ allAdded (next l c) cs
 
-abbrev pub allPaid : Ledger → List Call → ℤ
+abbrev pub allPaid : Ledger → List LedgerCall → ℤ
 allPaid l [] = pos 0
 allPaid l (c ∷ cs) = paid l c +ℤ allPaid (next l c) cs
 
 -- no call of the list gives 29
-abbrev pub AllLegal : Ledger → List Call → Type 0
+abbrev pub AllLegal : Ledger → List LedgerCall → Type 0
 AllLegal l [] = Unit {0}
 AllLegal l (c ∷ cs) = (numberOf l c ≡ record-not-legal → ⊥) × AllLegal (next l c) cs
 
 -- n ticks with one limit
-abbrev pub ticks : ℕ → ℕ → List Call
+abbrev pub ticks : ℕ → ℕ → List LedgerCall
 ticks zero limit = []
 ticks (suc n) limit = tick limit ∷ ticks n limit
 
@@ -72,9 +72,9 @@ ceiling size limit = (size + limit - 1) / limit
 
 pub record Balance : Type 0 where
   -- what was paid and what is still owed is what was added
-  pub balanced : (cs : List Call) → allPaid opened cs +ℤ after opened cs .debt ≡ allAdded opened cs
+  pub balanced : (cs : List LedgerCall) → allPaid opened cs +ℤ after opened cs .debt ≡ allAdded opened cs
   -- the debt stays legal, so that 29 is never given
-  pub stays-legal : (cs : List Call) → (illegal (after opened cs) ≡ false) × AllLegal opened cs
+  pub stays-legal : (cs : List LedgerCall) → (illegal (after opened cs) ≡ false) × AllLegal opened cs
   -- no tick pays more than is owed, and what it pays has the debt's sign: what is left is smaller by what was paid
   pub no-more : (debt : ℤ) (limit : ℕ) → natAbs (payment debt limit) + natAbs (debt -ℤ payment debt limit) ≡ natAbs debt
   -- ticks with one limit pay a debt off in exactly ⌈size / limit⌉ ticks

@@ -22,22 +22,22 @@ abbrev pub halfUnits : ℤ → ℕ → ℤ
 halfUnits offset half = offset +ℤ offset +ℤ pos half
 
 -- a debt of 2^50 half units or more in size
-unfoldable pub tooMuch : ℤ → Bool
-tooMuch debt = leb (2 ^ 50) (natAbs debt)
+unfoldable pub debtTooLarge : ℤ → Bool
+debtTooLarge debt = leb (2 ^ 50) (natAbs debt)
 
 abbrev pub illegal : Ledger → Bool
-illegal l = tooMuch (l .debt)
+illegal l = debtTooLarge (l .debt)
 
 -- a half that is not 0 or 1, or a size of 2^41 half units or more
-unfoldable pub tooLarge : ℤ → ℕ → Bool
-tooLarge offset half = not (leb half 1) || leb (2 ^ 41) (natAbs (halfUnits offset half))
+unfoldable pub entryTooLarge : ℤ → ℕ → Bool
+entryTooLarge offset half = not (leb half 1) || leb (2 ^ 41) (natAbs (halfUnits offset half))
 
 -- an entry, of an accepted offset and its half
 unfoldable pub entryTests : Ledger → ℤ → ℕ → Tests Entered
 entryTests l offset half =
     record-not-legal if illegal l else
-    entry-too-large if tooLarge offset half else
-    debt-too-large if tooMuch (l .debt +ℤ halfUnits offset half) else
+    entry-too-large if entryTooLarge offset half else
+    debt-too-large if debtTooLarge (l .debt +ℤ halfUnits offset half) else
     otherwise (record { answer = entry.Taken; ledger = record { debt = l .debt +ℤ halfUnits offset half } })
 
 abbrev pub refusedEntry : Ledger → ℕ → Entered

@@ -9,7 +9,7 @@ ghost use mathlib.Core.Bool.{not};
 ghost use Rattle.ordered_tests.specs.Tests.{between};
 ghost use Prim.Native.Nat.{_^_, _≤_, _<_, min};
 ghost use lib.IntN.{_+ℤ_, _-ℤ_, natAbs};
-ghost use Rattle.ledger.specs.Ledger.{opened, halfUnits, tooMuch, tooLarge, refusedEntry, entered, payment, refusedTick, ticked};
+ghost use Rattle.ledger.specs.Ledger.{opened, halfUnits, debtTooLarge, entryTooLarge, refusedEntry, entered, payment, refusedTick, ticked};
 
 // The debt in half units, below 2^50 in size.
 pub struct Ledger {
@@ -39,7 +39,7 @@ pub struct Ticked {
 }
 
 // The size of a signed number, from its bits: those of a negative one are 2^64 less its size.
-fn size(x: i64) -> u64
+fn magnitude(x: i64) -> u64
     ensures { λ r. ⌜ r ≡ natAbs x ⌝ }
 {
     let bits = twos_complement::bits64(x);
@@ -50,10 +50,10 @@ fn size(x: i64) -> u64
     }
 }
 
-fn too_much(debt: i64) -> bool
-    ensures { λ r. ⌜ r ≡ tooMuch debt ⌝ }
+fn debt_too_large(debt: i64) -> bool
+    ensures { λ r. ⌜ r ≡ debtTooLarge debt ⌝ }
 {
-    0x4_0000_0000_0000 <= size(debt)
+    0x4_0000_0000_0000 <= magnitude(debt)
 }
 
 fn sum(a: i64, b: i64) -> i64
@@ -79,16 +79,16 @@ fn half_units(offset: i64, half: u8) -> i64
 }
 
 // Twice an offset may not fit 64 bits: one of more than 2^40 units is too large whatever its half.
-fn too_large(offset: i64, half: u8) -> bool
-    ensures { λ r. ⌜ r ≡ tooLarge offset half ⌝ }
+fn entry_too_large(offset: i64, half: u8) -> bool
+    ensures { λ r. ⌜ r ≡ entryTooLarge offset half ⌝ }
 {
     if 1 < half {
         return true;
     }
-    if 0x100_0000_0000 < size(offset) {
+    if 0x100_0000_0000 < magnitude(offset) {
         return true;
     }
-    0x200_0000_0000 <= size(half_units(offset, half))
+    0x200_0000_0000 <= magnitude(half_units(offset, half))
 }
 
 fn least(a: u64, b: u64) -> u64
@@ -102,7 +102,7 @@ fn payment(debt: i64, limit: u64) -> i64
     requires { ⌜ natAbs debt < 2 ^ 50 ⌝ }
     ensures { λ r. ⌜ r ≡ payment debt limit ⌝ }
 {
-    let paid = least(size(debt), limit) as i64;
+    let paid = least(magnitude(debt), limit) as i64;
     if debt < 0 { difference(0, paid) } else { paid }
 }
 
@@ -133,14 +133,14 @@ impl Ledger {
     pub fn entry(self, offset: i64, half: u8) -> Entered
         ensures { λ r. ⌜ r ≡ entered self offset half ⌝ }
     {
-        if too_much(self.debt) {
+        if debt_too_large(self.debt) {
             return self.refused_entry(refusals::RECORD_NOT_LEGAL);
         }
-        if too_large(offset, half) {
+        if entry_too_large(offset, half) {
             return self.refused_entry(refusals::ENTRY_TOO_LARGE);
         }
         let debt = sum(self.debt, half_units(offset, half));
-        if too_much(debt) {
+        if debt_too_large(debt) {
             return self.refused_entry(refusals::DEBT_TOO_LARGE);
         }
         Entered {
@@ -162,7 +162,7 @@ impl Ledger {
     pub fn tick(self, limit: u64) -> Ticked
         ensures { λ r. ⌜ r ≡ ticked self limit ⌝ }
     {
-        if too_much(self.debt) {
+        if debt_too_large(self.debt) {
             return self.refused_tick(refusals::RECORD_NOT_LEGAL);
         }
         if limit_out_of_range(limit) {

@@ -2,27 +2,27 @@
 ghost use mathlib.Core.Path.{_≡_};
 ghost use mathlib.Core.List.{[], _∷_, reverse};
 ghost use Prim.Native.Nat.{_+_, _*_, _^_};
-ghost use Rattle.numbers.specs.Octets.{bigEndian, octets};
+ghost use Rattle.arithmetic.specs.Octets.{bigEndian, octets};
 
 // The number of four octets, the highest first.
-pub fn join32(a: u8, b: u8, c: u8, d: u8) -> u32
+pub fn be32(a: u8, b: u8, c: u8, d: u8) -> u32
     ensures { λ r. ⌜ r ≡ bigEndian (a ∷ b ∷ c ∷ d ∷ []) ⌝ }
 {
     (a as u32) * 0x100_0000 + (b as u32) * 0x1_0000 + (c as u32) * 0x100 + (d as u32)
 }
 
 // The number of eight octets, from the numbers of their halves.
-pub fn join64(high: u32, low: u32) -> u64
+pub fn from_halves(high: u32, low: u32) -> u64
     ensures { λ r. ⌜ r ≡ high * 256 ^ 4 + low ⌝ }
 {
     (high as u64) * 0x1_0000_0000 + (low as u64)
 }
 
 // The number whose octets are those of x in reverse order. The compiler makes one instruction of it.
-pub fn reversed32(x: u32) -> u32
+pub fn swap_octets32(x: u32) -> u32
     ensures { λ r. ⌜ r ≡ bigEndian (reverse (octets 4 x)) ⌝ }
 {
-    join32(
+    be32(
         (x % 256) as u8,
         (x / 256 % 256) as u8,
         (x / 65536 % 256) as u8,
@@ -30,11 +30,11 @@ pub fn reversed32(x: u32) -> u32
     )
 }
 
-pub fn reversed64(x: u64) -> u64
+pub fn swap_octets64(x: u64) -> u64
     ensures { λ r. ⌜ r ≡ bigEndian (reverse (octets 8 x)) ⌝ }
 {
-    join64(
-        reversed32((x % 4294967296) as u32),
-        reversed32((x / 4294967296) as u32),
+    from_halves(
+        swap_octets32((x % 4294967296) as u32),
+        swap_octets32((x / 4294967296) as u32),
     )
 }

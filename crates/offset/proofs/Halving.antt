@@ -9,10 +9,10 @@ use mir.Syntax.{w64}
 use mir.Val.{SFits, toZ, ofZ}
 use mir.ValLaws.{sfits-le}
 use mir.Facts.{toZ-pos, toZ-ofZ}
-use Rattle.numbers.specs.Modulo.{_modulo_}
-use Rattle.numbers.proofs.Whole.{up, dn, whole, sum}
-use Rattle.numbers.proofs.Modulo.{modulo-below}
-use Rattle.numbers.proofs.Machine.{held}
+use Rattle.arithmetic.specs.Modulo.{_modulo_}
+use Rattle.arithmetic.proofs.Integers.{up, dn, integers, sum}
+use Rattle.arithmetic.proofs.Modulo.{modulo-below}
+use Rattle.arithmetic.proofs.Machine.{held}
 use Rattle.offset.specs.Offset.{floorHalf, halfOf}
 use Rattle.offset.specs.Halving.{twice, Halving}
 
@@ -32,11 +32,11 @@ halving z =
     let h = half-below z in
     let s = sum (floorHalf z) (floorHalf z) in
     record {
-      exact = omega (arith, whole, sum (twice (floorHalf z)) (pos (halfOf z)));
+      exact = omega (arith, integers, sum (twice (floorHalf z)) (pos (halfOf z)));
       small = omega arith;
-      only = λ o k l p. let t = sum o o in (omega (arith, whole, sum (twice o) (pos k)), omega (arith, whole, sum (twice o) (pos k)));
-      not-above = omega (arith, whole);
-      greatest = λ w l. let t = sum w w in omega (arith, whole);
+      only = λ o k l p. let t = sum o o in (omega (arith, integers, sum (twice o) (pos k)), omega (arith, integers, sum (twice o) (pos k)));
+      not-above = omega (arith, integers);
+      greatest = λ w l. let t = sum w w in omega (arith, integers);
     }
 
 -- ---- in code: a shift to the right by one place is the floor, and the lowest bit is the half

@@ -1,2 +1,2 @@
 pub mod Halving
-pub mod Judged
+pub mod Differences

@@ -3,11 +3,11 @@ use Prim.Native.Nat.{ℕ, suc, _/_, _^_}
 use mathlib.Core.Bool.{Bool, not, _||_}
 use lib.IntN.{ℤ, pos, negsuc, negℤ, _+ℤ_, _-ℤ_}
 use lib.Signed.{ltZ}
-use Rattle.numbers.specs.Modulo.{_modulo_}
+use Rattle.arithmetic.specs.Modulo.{_modulo_}
 use Rattle.refusals.specs.Numbers.{arrived-before-sent, arrived-too-late, answered-before-received, delay-negative, difference-out-of-range}
 use Rattle.ordered_tests.specs.Tests.{Tests, _if_else_, otherwise, answer}
 use Rattle.timestamp.specs.declared.Timestamp.{Timestamp}
-use Rattle.timestamp.specs.Timestamp.{constants, _⊖_, negative}
+use Rattle.timestamp.specs.Timestamp.{constants, _since_, negative}
 use Rattle.offset.specs.declared.Halves.{Halves}
 use Rattle.offset.specs.declared.OffsetAnswer.{OffsetAnswer}
 use Rattle.offset.specs.declared.OffsetAnswer.the-variants.{Refused, Measured}
@@ -40,4 +40,4 @@ offsetTests trip hold p q =
 
 -- document 01's first difference P = T2 - T1, second difference Q = T3 - T4
 unfoldable pub measured : (t1 t2 t3 t4 : Timestamp) → OffsetAnswer
-measured t1 t2 t3 t4 = answer Refused (offsetTests (t4 ⊖ t1) (t3 ⊖ t2) (t2 ⊖ t1) (t3 ⊖ t4))
+measured t1 t2 t3 t4 = answer Refused (offsetTests (t4 since t1) (t3 since t2) (t2 since t1) (t3 since t4))

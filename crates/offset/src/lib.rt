@@ -54,7 +54,7 @@ fn first_refusal(trip: i64, hold: i64, p: i64, q: i64) -> u8
     0
 }
 
-fn judge(trip: i64, hold: i64, p: i64, q: i64) -> OffsetAnswer
+fn from_differences(trip: i64, hold: i64, p: i64, q: i64) -> OffsetAnswer
     ensures { λ r. ⌜ r ≡ answer OffsetAnswer.Refused (offsetTests trip hold p q) ⌝ }
 {
     let number = first_refusal(trip, hold, p, q);
@@ -73,5 +73,5 @@ fn judge(trip: i64, hold: i64, p: i64, q: i64) -> OffsetAnswer
 pub fn measure(t1: Timestamp, t2: Timestamp, t3: Timestamp, t4: Timestamp) -> OffsetAnswer
     ensures { λ r. ⌜ r ≡ measured t1 t2 t3 t4 ⌝ }
 {
-    judge(t4.minus(t1), t3.minus(t2), t2.minus(t1), t3.minus(t4))
+    from_differences(t4.minus(t1), t3.minus(t2), t2.minus(t1), t3.minus(t4))
 }

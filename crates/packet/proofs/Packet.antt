@@ -9,14 +9,14 @@ use borrow.Author.Tests.{le-ltb, ltb-false}
 use lib.Dec.{ltb}
 use lib.ListN.{length, drop, length-append}
 use lib.Seq.{sets, sets-eq}
-use Rattle.numbers.specs.Octets.{bigEndian, octets, AreOctets}
-use Rattle.numbers.proofs.Octets.{length-octets, octets-bigEndian}
+use Rattle.arithmetic.specs.Octets.{bigEndian, octets, AreOctets}
+use Rattle.arithmetic.proofs.Octets.{length-octets, octets-bigEndian}
 use Rattle.refusals.specs.Numbers.{packet-length-wrong}
 use Rattle.ordered_tests.specs.Tests.{_if_else_, otherwise, answer}
 use Rattle.packet.specs.declared.Fields.{Fields}
 use Rattle.packet.specs.declared.FieldsAnswer.{FieldsAnswer}
 use Rattle.packet.specs.declared.WriteAnswer.{WriteAnswer}
-use Rattle.packet.specs.Packet.{fieldsOf, octetsOf, wrongLength, readAnswer, tooLarge, writeAnswer, written}
+use Rattle.packet.specs.Packet.{fieldsOf, octetsOf, wrongLength, readAnswer, fieldTooLarge, writeAnswer, written}
 
 pub length-octetsOf : (f : Fields) → length (octetsOf f) ≡ 48
 unfolding octetsOf
@@ -40,13 +40,13 @@ none false true c e = (cc, cc, cc)
 none false false c e = (cc, cc, e)
 
 -- the fields of octet 0, where none is too large
-pub bounded : (f : Fields) → tooLarge f ≡ false → (f .leap ≤ 3) × (f .version ≤ 7) × (f .mode ≤ 7)
+pub bounded : (f : Fields) → fieldTooLarge f ≡ false → (f .leap ≤ 3) × (f .version ≤ 7) × (f .mode ≤ 7)
 bounded f e =
     let n = none (ltb 3 (f .leap)) (ltb 7 (f .version)) (ltb 7 (f .mode)) e in
     (ltb-false _ _ (n .0), ltb-false _ _ (n .1), ltb-false _ _ (n .2))
 
 -- writing that is not refused
-module _ (b : List ℕ) (f : Fields) (long : 48 ≤ length b) (small : tooLarge f ≡ false) where
+module _ (b : List ℕ) (f : Fields) (long : 48 ≤ length b) (small : fieldTooLarge f ≡ false) where
   pub answer-written : writeAnswer b f ≡ WriteAnswer.Written
   answer-written = rw (le-ltb (length b) 48 long, small)
 

@@ -11,14 +11,14 @@ use lib.IntN.{ℤ}
 use lib.ListN.{length, take, drop, length-append, length-drop}
 use lib.Pow.{pow-pos}
 use lib.Seq.{take-take, take-at, drop-at, getD-take}
-use Rattle.numbers.specs.TwosComplement.{signed, bits}
-use Rattle.numbers.specs.Octets.{bigEndian, octets, part, AreOctets}
-use Rattle.numbers.proofs.Modulo.{modulo-below}
-use Rattle.numbers.proofs.TwosComplement.{signed-bits, bits-signed}
-use Rattle.numbers.proofs.Octets.{bigEndian-octets, octets-number, number-lt, part-add, part-four}
+use Rattle.arithmetic.specs.TwosComplement.{signed, bits}
+use Rattle.arithmetic.specs.Octets.{bigEndian, octets, part, AreOctets}
+use Rattle.arithmetic.proofs.Modulo.{modulo-below}
+use Rattle.arithmetic.proofs.TwosComplement.{signed-bits, bits-signed}
+use Rattle.arithmetic.proofs.Octets.{bigEndian-octets, octets-number, number-lt, part-add, part-four}
 use Rattle.packet.specs.declared.Fields.{Fields}
 use Rattle.packet.specs.declared.FieldsAnswer.{FieldsAnswer}
-use Rattle.packet.specs.Packet.{octet, _from_to_, fieldsOf, octetsOf, wrongLength, readAnswer, tooLarge, written}
+use Rattle.packet.specs.Packet.{octet, _from_to_, fieldsOf, octetsOf, wrongLength, readAnswer, fieldTooLarge, written}
 use Rattle.packet.specs.RoundTrips.{Legal, RoundTrips}
 use Rattle.packet.proofs.Packet.{length-octetsOf, bounded, answer-written, octets-written}
 
@@ -57,7 +57,7 @@ module _ (p : List ℕ) (long : 48 ≤ length p) where
       (sym parts)
 
 -- fields that were read are not too large
-fieldsOf-small : (p : List ℕ) → AreOctets p → tooLarge (fieldsOf p) ≡ false
+fieldsOf-small : (p : List ℕ) → AreOctets p → fieldTooLarge (fieldsOf p) ≡ false
 unfolding fieldsOf
 fieldsOf-small p h =
     let k = h 0 in
@@ -146,13 +146,13 @@ by-cases b f P old new =
     (λ short. rw short old)
     (λ room.
     let long = ltb-false (length b) 48 room in
-    either (tooLarge f) (λ large. rw (room, large) old) (λ small. rw (octets-written b f long small) (new long)))
+    either (fieldTooLarge f) (λ large. rw (room, large) old) (λ small. rw (octets-written b f long small) (new long)))
 
 pub round-trips : RoundTrips
 round-trips = record {
   octets-back = λ p b f h e long.
       let r = fields-read p f e in
-      let small : tooLarge f ≡ false = ap tooLarge (sym (r .1)) ∙ fieldsOf-small p h in
+      let small : fieldTooLarge f ≡ false = ap fieldTooLarge (sym (r .1)) ∙ fieldsOf-small p h in
       (answer-written b f long small, octets-written b f long small ∙ (rw (← r .1, octetsOf-fieldsOf p (r .0) h)));
   fields-back = λ b f k long.
       (answer-written b f long (k .small), (rw (octets-written b f long (k .small), take-at (octetsOf f) (drop 48 b) 48 (length-octetsOf f), length-octetsOf f, fieldsOf-octetsOf f k)));

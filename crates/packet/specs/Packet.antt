@@ -4,8 +4,8 @@ use mathlib.Core.Bool.{Bool, not, _||_}
 use mathlib.Core.List.{List, _∷_, _++_}
 use lib.ListN.{length, drop, getD}
 use lib.Dec.{ltb, eqb}
-use Rattle.numbers.specs.TwosComplement.{signed, bits}
-use Rattle.numbers.specs.Octets.{bigEndian, octets, part}
+use Rattle.arithmetic.specs.TwosComplement.{signed, bits}
+use Rattle.arithmetic.specs.Octets.{bigEndian, octets, part}
 use Rattle.refusals.specs.Numbers.{packet-length-wrong, buffer-too-short, field-too-large}
 use Rattle.ordered_tests.specs.Tests.{Tests, _if_else_, otherwise, answer, kept}
 use Rattle.timestamp.specs.Timestamp.{timestamp}
@@ -78,14 +78,14 @@ readAnswer packet = answer FieldsAnswer.Refused (readTests packet)
 abbrev pub tooShort : List ℕ → Bool
 tooShort buffer = ltb (length buffer) packetLength
 
-abbrev pub tooLarge : Fields → Bool
-tooLarge f = ltb 3 (f .leap) || ltb 7 (f .version) || ltb 7 (f .mode)
+abbrev pub fieldTooLarge : Fields → Bool
+fieldTooLarge f = ltb 3 (f .leap) || ltb 7 (f .version) || ltb 7 (f .mode)
 
 -- writing refuses by 1, then 27
 abbrev pub writeTests : List ℕ → Fields → Tests WriteAnswer
 writeTests buffer f =
     buffer-too-short if tooShort buffer else
-    field-too-large if tooLarge f else
+    field-too-large if fieldTooLarge f else
     otherwise WriteAnswer.Written
 
 abbrev pub writeAnswer : List ℕ → Fields → WriteAnswer

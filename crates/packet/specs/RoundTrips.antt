@@ -4,16 +4,16 @@ use mathlib.Core.Path.{_≡_}
 use mathlib.Core.Bool.{false}
 use mathlib.Core.List.{List, _++_}
 use lib.ListN.{length, take, drop}
-use Rattle.numbers.specs.TwosComplement.{Fits}
-use Rattle.numbers.specs.Octets.{AreOctets}
+use Rattle.arithmetic.specs.TwosComplement.{Fits}
+use Rattle.arithmetic.specs.Octets.{AreOctets}
 use Rattle.packet.specs.declared.Fields.{Fields}
 use Rattle.packet.specs.declared.FieldsAnswer.{FieldsAnswer}
 use Rattle.packet.specs.declared.WriteAnswer.{WriteAnswer}
-use Rattle.packet.specs.Packet.{packetLength, readAnswer, tooLarge, writeAnswer, written}
+use Rattle.packet.specs.Packet.{packetLength, readAnswer, fieldTooLarge, writeAnswer, written}
 
 -- fields that writing does not refuse, each a value of its type
 pub record Legal (f : Fields) : Type 0 where
-  pub small : tooLarge f ≡ false
+  pub small : fieldTooLarge f ≡ false
   pub stratum : f .stratum < 2 ^ 8
   pub poll : f .poll < 2 ^ 8
   pub precision : Fits 8 (f .precision)

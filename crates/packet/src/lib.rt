@@ -5,8 +5,8 @@ ghost use mathlib.Core.Bool.{false};
 ghost use mathlib.Core.List.{_++_};
 ghost use lib.ListN.{length, take};
 ghost use lib.Seq.{sets};
-ghost use Rattle.numbers.specs.Octets.{octets};
-ghost use Rattle.packet.specs.Packet.{packetLength, fieldsOf, octetsOf, tooLarge, readAnswer, writeAnswer, written};
+ghost use Rattle.arithmetic.specs.Octets.{octets};
+ghost use Rattle.packet.specs.Packet.{packetLength, fieldsOf, octetsOf, fieldTooLarge, readAnswer, writeAnswer, written};
 use timestamp::Timestamp;
 
 // The octets of a packet, and of one with an authenticator, which is not read.
@@ -55,13 +55,13 @@ fn read_fields(p: &[u8]) -> Fields
         stratum: p[1],
         poll: p[2],
         precision: twos_complement::signed8(p[3]),
-        root_delay: twos_complement::signed32(slices::number32(p, 4)),
-        root_dispersion: slices::number32(p, 8),
-        identifier: slices::number32(p, 12),
-        reference: Timestamp::from_units(slices::number64(p, 16)),
-        originate: Timestamp::from_units(slices::number64(p, 24)),
-        receive: Timestamp::from_units(slices::number64(p, 32)),
-        transmit: Timestamp::from_units(slices::number64(p, 40)),
+        root_delay: twos_complement::signed32(slices::read_be32(p, 4)),
+        root_dispersion: slices::read_be32(p, 8),
+        identifier: slices::read_be32(p, 12),
+        reference: Timestamp::from_units(slices::read_be64(p, 16)),
+        originate: Timestamp::from_units(slices::read_be64(p, 24)),
+        receive: Timestamp::from_units(slices::read_be64(p, 32)),
+        transmit: Timestamp::from_units(slices::read_be64(p, 40)),
     }
 }
 
@@ -87,15 +87,15 @@ fn put_timestamps(
     requires { ⌜ at + 32 ≤ length (now b) ⌝ }
     ensures { λ _. ⌜ now (b .exit) ≡ sets (now (b .entry)) at (octets 8 (t0 .0) ++ octets 8 (t1 .0) ++ octets 8 (t2 .0) ++ octets 8 (t3 .0)) ⌝ }
 {
-    slices::put64(b, at, t0.0);
-    slices::put64(b, at + 8, t1.0);
-    slices::put64(b, at + 16, t2.0);
-    slices::put64(b, at + 24, t3.0);
+    slices::write_be64(b, at, t0.0);
+    slices::write_be64(b, at + 8, t1.0);
+    slices::write_be64(b, at + 16, t2.0);
+    slices::write_be64(b, at + 24, t3.0);
 }
 
 // A field is too large to write.
-fn too_large(fields: Fields) -> bool
-    ensures { λ r. ⌜ r ≡ tooLarge fields ⌝ }
+fn field_too_large(fields: Fields) -> bool
+    ensures { λ r. ⌜ r ≡ fieldTooLarge fields ⌝ }
 {
     3 < fields.leap || 7 < fields.version || 7 < fields.mode
 }
@@ -110,10 +110,10 @@ fn first_octet(leap: u8, version: u8, mode: u8) -> u8
 
 // The number of octets 0 to 3.
 fn first_word(fields: Fields) -> u32
-    requires { ⌜ tooLarge fields ≡ false ⌝ }
+    requires { ⌜ fieldTooLarge fields ≡ false ⌝ }
     ensures { λ r. ⌜ octets 4 r ≡ take 4 (octetsOf fields) ⌝ }
 {
-    octets::join32(
+    octets::be32(
         first_octet(fields.leap, fields.version, fields.mode),
         fields.stratum,
         fields.poll,
@@ -124,13 +124,13 @@ fn first_word(fields: Fields) -> u32
 // Stores the 48 octets of fields that are not too large.
 fn put_fields(b: &mut [u8], fields: Fields)
     requires { ⌜ packetLength ≤ length (now b) ⌝ }
-    requires { ⌜ tooLarge fields ≡ false ⌝ }
+    requires { ⌜ fieldTooLarge fields ≡ false ⌝ }
     ensures { λ _. ⌜ now (b .exit) ≡ sets (now (b .entry)) 0 (octetsOf fields) ⌝ }
 {
-    slices::put32(b, 0, first_word(fields));
-    slices::put32(b, 4, twos_complement::bits32(fields.root_delay));
-    slices::put32(b, 8, fields.root_dispersion);
-    slices::put32(b, 12, fields.identifier);
+    slices::write_be32(b, 0, first_word(fields));
+    slices::write_be32(b, 4, twos_complement::bits32(fields.root_delay));
+    slices::write_be32(b, 8, fields.root_dispersion);
+    slices::write_be32(b, 12, fields.identifier);
     put_timestamps(
         b,
         16,
@@ -149,7 +149,7 @@ pub fn write(buffer: &mut [u8], fields: Fields) -> WriteAnswer
     if buffer.len() < LENGTH {
         return WriteAnswer::Refused(refusals::BUFFER_TOO_SHORT);
     }
-    if too_large(fields) {
+    if field_too_large(fields) {
         return WriteAnswer::Refused(refusals::FIELD_TOO_LARGE);
     }
     put_fields(buffer, fields);

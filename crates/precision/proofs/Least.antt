@@ -12,8 +12,8 @@ use lib.Pow.{pow-mono}
 use mir.Syntax.{w8}
 use mir.Val.{SFits, toZ, ofZ}
 use mir.Facts.{toZ-pos, toZ-ofZ}
-use Rattle.numbers.proofs.Whole.{whole, minus}
-use Rattle.numbers.proofs.Machine.{whole-fits}
+use Rattle.arithmetic.proofs.Integers.{integers, minus}
+use Rattle.arithmetic.proofs.Machine.{integers-fits}
 use Rattle.precision.specs.Precision.{least}
 use Rattle.precision.specs.SmallestPower.{Smallest}
 
@@ -56,7 +56,7 @@ module _ (k : ℕ) (h : k ≤ 64) where
   read = toZ-pos w8 (omega arith)
 
   pub octet-fits : SFits w8 (toZ w8 k -ℤ pos 32)
-  octet-fits = rw read (whole-fits w8 (pos k -ℤ pos 32) (omega (arith, whole, minus (pos k) (pos 32))))
+  octet-fits = rw read (integers-fits w8 (pos k -ℤ pos 32) (omega (arith, integers, minus (pos k) (pos 32))))
 
   pub octet-is : toZ w8 (ofZ w8 (toZ w8 k -ℤ pos 32)) ≡ pos k -ℤ pos 32
   octet-is = toZ-ofZ octet-fits ∙ rw read refl

@@ -15,7 +15,7 @@ pub written-within : (r : Replay) (xs : List ℕ) (room : ℕ) (fed : Fed) → f
 written-within r xs room fed e = rw (ap (λ z. z .written) e) (pieces .within r xs room .1)
 
 -- a call that is offered something and has room for any answer takes something
-some : (r : Replay) (xs : List ℕ) (room : ℕ) → 1 ≤ length xs → 99 ≤ room → 1 ≤ ran r xs room .taken
+some : (r : Replay) (xs : List ℕ) (room : ℕ) → 1 ≤ length xs → 99 ≤ room → 1 ≤ ran r xs room .consumed
 some r [] room h k = absurd (omega arith)
 some r (c ∷ xs) room h k = pieces .goes-on r c xs room k
 
@@ -27,8 +27,8 @@ module _ (r : Replay) (input : List ℕ) (at room : ℕ) (fed : Fed) (h : at < l
   length-part : length part ≡ length input - at
   length-part = length-take-le (length input - at) (drop at input) (rw length-drop (omega arith))
 
-  pub taken-within : at + fed .taken ≤ length input
-  taken-within = let n = length-part in let w = pieces .within r part room .0 in let t = ap (λ z. z .taken) e in omega arith
+  pub taken-within : at + fed .consumed ≤ length input
+  taken-within = let n = length-part in let w = pieces .within r part room .0 in let t = ap (λ z. z .consumed) e in omega arith
 
-  pub takes : 99 ≤ room → 1 ≤ fed .taken
-  takes k = rw (ap (λ z. z .taken) e) (let n = length-part in some r part room (omega arith) k)
+  pub takes : 99 ≤ room → 1 ≤ fed .consumed
+  takes k = rw (ap (λ z. z .consumed) e) (let n = length-part in some r part room (omega arith) k)

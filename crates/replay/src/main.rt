@@ -23,7 +23,7 @@ fn feed_all(start: Replay, input: &[u8], output: &mut [u8]) -> Replay
         let n = fed.written;
         io::write_all(STDOUT_FILENO, &output[..n]);
         replay = fed.replay;
-        at += fed.taken;
+        at += fed.consumed;
     }
     replay
 }

@@ -6,12 +6,12 @@ use lib.Dec.{eqb}
 use Rattle.ordered_tests.specs.Tests.{Tests, _when_else_, Given, given, number, answerOf, carry, pass}
 use Rattle.ordered_tests.proofs.Tests.{carried, before-refused, before-passed}
 use Rattle.timestamp.specs.declared.Timestamp.{Timestamp}
-use Rattle.timestamp.specs.Timestamp.{_⊖_}
+use Rattle.timestamp.specs.Timestamp.{_since_}
 use Rattle.offset.specs.declared.OffsetAnswer.{OffsetAnswer}
 use Rattle.offset.specs.Offset.{offsetTests, measured}
 use Rattle.packet.specs.declared.Fields.{Fields}
 use Rattle.kiss.specs.Kiss.{rowOf}
-use Rattle.sanity.specs.Sanity.{useTests, rootTests}
+use Rattle.sanity.specs.Sanity.{headerTests, rootTests}
 use Rattle.reply_checks.specs.declared.ArrivalAnswer.{ArrivalAnswer}
 use Rattle.reply_checks.specs.declared.ArrivalAnswer.the-variants.{Refused, Kiss}
 use Rattle.reply_checks.specs.Checks.{matchTests, fromOffset, checkTests, checked}
@@ -22,14 +22,14 @@ module _ (transmit : Timestamp) (version : ℕ) (f : Fields) (t4 : Timestamp) wh
   matching = matchTests transmit version f pass
 
   abbrev sane : Tests (Unit {0})
-  sane = useTests f t4 (rootTests f pass)
+  sane = headerTests f t4 (rootTests f pass)
 
   abbrev timely : Tests OffsetAnswer
-  timely = offsetTests (t4 ⊖ transmit) (f .transmit ⊖ f .receive) (f .receive ⊖ transmit) (f .transmit ⊖ t4)
+  timely = offsetTests (t4 since transmit) (f .transmit since f .receive) (f .receive since transmit) (f .transmit since t4)
 
   -- what follows the first, and where it is no kiss
   abbrev of-use : Tests ArrivalAnswer
-  of-use = useTests f t4 (rootTests f (carry fromOffset timely))
+  of-use = headerTests f t4 (rootTests f (carry fromOffset timely))
 
   abbrev matched-then : Tests ArrivalAnswer
   matched-then = Kiss (f .identifier) (rowOf (f .identifier)) when eqb (f .stratum) 0 else of-use

@@ -5,12 +5,12 @@ use lib.Dec.{eqb}
 use Rattle.ordered_tests.specs.Tests.{Tests, _if_else_, _when_else_, answer, carry}
 use Rattle.refusals.specs.Numbers.{originate-mismatch, reply-mode-wrong, version-mismatch}
 use Rattle.timestamp.specs.declared.Timestamp.{Timestamp}
-use Rattle.timestamp.specs.Timestamp.{_⊖_}
+use Rattle.timestamp.specs.Timestamp.{_since_}
 use Rattle.offset.specs.declared.OffsetAnswer.{OffsetAnswer}
 use Rattle.offset.specs.Offset.{offsetTests}
 use Rattle.packet.specs.declared.Fields.{Fields}
 use Rattle.kiss.specs.Kiss.{rowOf}
-use Rattle.sanity.specs.Sanity.{useTests, rootTests}
+use Rattle.sanity.specs.Sanity.{headerTests, rootTests}
 use Rattle.reply_checks.specs.declared.ArrivalAnswer.{ArrivalAnswer}
 use Rattle.reply_checks.specs.declared.ArrivalAnswer.the-variants.{Refused, Accepted, Kiss}
 
@@ -31,9 +31,9 @@ unfoldable pub checkTests : Timestamp → ℕ → Fields → Timestamp → Tests
 checkTests transmit version f t4 =
     matchTests transmit version f (
     Kiss (f .identifier) (rowOf (f .identifier)) when eqb (f .stratum) 0 else
-    useTests f t4 (
+    headerTests f t4 (
     rootTests f (
-    carry fromOffset (offsetTests (t4 ⊖ transmit) (f .transmit ⊖ f .receive) (f .receive ⊖ transmit) (f .transmit ⊖ t4)))))
+    carry fromOffset (offsetTests (t4 since transmit) (f .transmit since f .receive) (f .receive since transmit) (f .transmit since t4)))))
 
 unfoldable pub checked : Timestamp → ℕ → Fields → Timestamp → ArrivalAnswer
 checked transmit version f t4 = answer Refused (checkTests transmit version f t4)

@@ -6,15 +6,15 @@ use native.Mathlib.Omega.{arith}
 use borrow.Author.Tests.{ltb-true, ltb-false, le-ltb, le-leb}
 use lib.Dec.{ltb}
 use lib.IntN.{pos, negsuc}
-use Rattle.numbers.specs.TwosComplement.{signed}
-use Rattle.numbers.proofs.Whole.{whole, minus}
-use Rattle.numbers.proofs.TwosComplement.{signed-low, signed-high}
+use Rattle.arithmetic.specs.TwosComplement.{signed}
+use Rattle.arithmetic.proofs.Integers.{integers, minus}
+use Rattle.arithmetic.proofs.TwosComplement.{signed-low, signed-high}
 use Rattle.sanity.specs.Sanity.{rootDelayOutOfRange, rootDispersionTooLarge}
 use Rattle.sanity.specs.Readings.{Readings}
 
 -- the upper half of the 2^32 numbers stand for negative ones
 upper : (n : ℕ) → 2 ^ 31 ≤ n → n < 2 ^ 32 → signed 32 n ≡ negsuc (2 ^ 32 - suc n)
-upper n l h = let s = signed-high 32 n l in omega (arith, whole, minus (pos n) (pos (2 ^ 32)))
+upper n l h = let s = signed-high 32 n l in omega (arith, integers, minus (pos n) (pos (2 ^ 32)))
 
 delay-either : (n : ℕ) → n < 2 ^ 32 → rootDelayOutOfRange (signed 32 n) ≡ rootDispersionTooLarge n
 delay-either n h = go (ltb n (2 ^ 31)) refl

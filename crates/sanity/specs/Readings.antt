@@ -5,7 +5,7 @@ use mathlib.Core.Path.{_≡_}
 use mathlib.Core.Bool.{true, false}
 use lib.IntN.{pos}
 use lib.Signed.{leZ}
-use Rattle.numbers.specs.TwosComplement.{signed}
+use Rattle.arithmetic.specs.TwosComplement.{signed}
 use Rattle.sanity.specs.Sanity.{rootDelayOutOfRange, rootDispersionTooLarge}
 
 pub record Readings : Type 0 where

@@ -12,8 +12,8 @@ use Rattle.timestamp.specs.Timestamp.{isZero, negative}
 use Rattle.packet.specs.declared.Fields.{Fields}
 
 -- the reply is of use; then the rest
-abbrev pub useTests : {A : Type 0} → Fields → Timestamp → Tests A → Tests A
-useTests f t4 rest =
+abbrev pub headerTests : {A : Type 0} → Fields → Timestamp → Tests A → Tests A
+headerTests f t4 rest =
     own-clock-zero if isZero t4 else
     server-unsynchronised if eqb (f .leap) 3 else
     stratum-too-high if ltb 15 (f .stratum) else

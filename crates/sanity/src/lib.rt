@@ -1,7 +1,7 @@
 // The sanity checks of a server's reply that need no record of the request (RFC 4330, section 5).
 ghost use mathlib.Core.Path.{_≡_};
 ghost use Rattle.ordered_tests.specs.Tests.{number, pass};
-ghost use Rattle.sanity.specs.Sanity.{useTests, rootDelayOutOfRange, rootDispersionTooLarge, rootTests};
+ghost use Rattle.sanity.specs.Sanity.{headerTests, rootDelayOutOfRange, rootDispersionTooLarge, rootTests};
 use packet::Fields;
 use timestamp::Timestamp;
 
@@ -20,7 +20,7 @@ fn root_dispersion_too_large(dispersion: u32) -> bool
 
 // The number of the first check that a reply with these fields, arrived at T4, does not pass, and 0 where it passes all.
 pub fn first_refusal(f: Fields, t4: Timestamp) -> u8
-    ensures { λ r. ⌜ r ≡ number (useTests f t4 (rootTests f pass)) ⌝ }
+    ensures { λ r. ⌜ r ≡ number (headerTests f t4 (rootTests f pass)) ⌝ }
 {
     if t4.is_zero() {
         return refusals::OWN_CLOCK_ZERO;

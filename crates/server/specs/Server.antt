@@ -9,7 +9,7 @@ use lib.Signed.{ltZ}
 use Rattle.refusals.specs.Numbers.{buffer-too-short, packet-length-wrong, request-mode-wrong, request-version-unsupported, settings-out-of-range, server-timestamp-zero, answered-before-received}
 use Rattle.ordered_tests.specs.Tests.{Tests, _if_else_, otherwise, answer, kept, between}
 use Rattle.timestamp.specs.declared.Timestamp.{Timestamp}
-use Rattle.timestamp.specs.Timestamp.{constants, isZero, _⊖_, negative}
+use Rattle.timestamp.specs.Timestamp.{constants, isZero, _since_, negative}
 use Rattle.packet.specs.declared.Fields.{Fields}
 use Rattle.packet.specs.Packet.{packetLength, fieldsOf, octetsOf, tooShort, wrongLength}
 use Rattle.kiss.specs.Kiss as kiss
@@ -28,7 +28,7 @@ requestTests s request t2 t3 =
     request-version-unsupported if not (between 1 4 (request .version)) else
     settings-out-of-range if outOfRange s else
     server-timestamp-zero if s .synchronised && (isZero t2 || isZero t3) else
-    answered-before-received if s .synchronised && negative (t3 ⊖ t2) else
+    answered-before-received if s .synchronised && negative (t3 since t2) else
     otherwise Written
 
 unfoldable pub replyTests : Settings → List ℕ → (t2 t3 : Timestamp) → List ℕ → Tests ReplyAnswer

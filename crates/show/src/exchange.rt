@@ -5,8 +5,8 @@ use crate::print::measured;
 use crate::print::refused;
 use crate::print::text;
 use client::CallAnswer;
+use client::Called;
 use client::Client;
-use client::Next;
 use packet::FieldsAnswer;
 use reply_checks::ArrivalAnswer;
 use server::ReplyAnswer;
@@ -14,7 +14,7 @@ use server::Settings;
 use timestamp::Timestamp;
 
 // What an ask or a give-up answers; the next record is handed on.
-fn show_call(next: Next) -> Client {
+fn show_call(next: Called) -> Client {
     let answer = next.answer;
     match answer {
         CallAnswer::Refused(n) => refused(n),

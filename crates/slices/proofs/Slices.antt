@@ -5,18 +5,18 @@ use mathlib.Core.List.{List, reverse, reverse-append}
 use borrow.Author.Tests.{le-leb}
 use lib.ListN.{length, length-reverse}
 use lib.Seq.{sets}
-use Rattle.numbers.specs.Octets.{bigEndian, octets, part}
-use Rattle.numbers.proofs.Octets.{length-octets, octets-add, octets-mod, sets-append}
-use Rattle.slices.specs.Slices.{numberAt, putNumber}
+use Rattle.arithmetic.specs.Octets.{bigEndian, octets, part}
+use Rattle.arithmetic.proofs.Octets.{length-octets, octets-add, octets-mod, sets-append}
+use Rattle.slices.specs.Slices.{readAt, writeAt}
 
 -- where there is room
 module _ (n : ℕ) (p : List ℕ) (at : ℕ) (room : at + n ≤ length p) where
-  pub number-room : numberAt n p at ≡ bigEndian (part at n p)
-  unfolding numberAt
+  pub number-room : readAt n p at ≡ bigEndian (part at n p)
+  unfolding readAt
   number-room = rw (le-leb (at + n) (length p) room)
 
-  pub put-room : (x : ℕ) → putNumber n p at x ≡ sets p at (octets n x)
-  unfolding putNumber
+  pub put-room : (x : ℕ) → writeAt n p at x ≡ sets p at (octets n x)
+  unfolding writeAt
   put-room x = rw (le-leb (at + n) (length p) room)
 
 -- the m + n octets of y in reverse order are stored by the lower n and then the higher m

@@ -5,12 +5,12 @@ use mathlib.Core.List.{List}
 use lib.Dec.{leb}
 use lib.ListN.{length}
 use lib.Seq.{sets}
-use Rattle.numbers.specs.Octets.{bigEndian, octets, part}
+use Rattle.arithmetic.specs.Octets.{bigEndian, octets, part}
 
 -- the number of the n octets of p from index at on, and 0 where p has not so many
-unfoldable pub numberAt : ℕ → List ℕ → ℕ → ℕ
-numberAt n p at = cond (leb (at + n) (length p)) (bigEndian (part at n p)) 0
+unfoldable pub readAt : ℕ → List ℕ → ℕ → ℕ
+readAt n p at = cond (leb (at + n) (length p)) (bigEndian (part at n p)) 0
 
 -- p with the n octets of x from index at on, and p itself where there is no room for them
-unfoldable pub putNumber : ℕ → List ℕ → ℕ → ℕ → List ℕ
-putNumber n p at x = cond (leb (at + n) (length p)) (sets p at (octets n x)) p
+unfoldable pub writeAt : ℕ → List ℕ → ℕ → ℕ → List ℕ
+writeAt n p at x = cond (leb (at + n) (length p)) (sets p at (octets n x)) p

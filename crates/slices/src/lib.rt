@@ -5,12 +5,12 @@ ghost use Prim.Native.Nat.{_+_, _≤_};
 ghost use lib.Dec.{leb};
 ghost use lib.ListN.{length};
 ghost use lib.Seq.{sets};
-ghost use Rattle.numbers.specs.Octets.{bigEndian, octets, part};
-ghost use Rattle.slices.specs.Slices.{numberAt, putNumber};
-use octets::join32;
-use octets::join64;
-use octets::reversed32;
-use octets::reversed64;
+ghost use Rattle.arithmetic.specs.Octets.{bigEndian, octets, part};
+ghost use Rattle.slices.specs.Slices.{readAt, writeAt};
+use octets::be32;
+use octets::from_halves;
+use octets::swap_octets32;
+use octets::swap_octets64;
 
 // Whether a slice of this length has n octets from index at on.
 fn has_room(length: usize, at: usize, n: usize) -> bool
@@ -26,36 +26,36 @@ fn has_room(length: usize, at: usize, n: usize) -> bool
 }
 
 // The number of the four octets from index at on. Joined from the lowest octet up and then reversed, the four loads are compiled to one.
-fn read32(p: &[u8], at: usize) -> u32
+fn load_be32(p: &[u8], at: usize) -> u32
     requires { ⌜ at + 4 ≤ length (now p) ⌝ }
     ensures { λ r. ⌜ r ≡ bigEndian (part at 4 (now (p .entry))) ⌝ }
 {
-    reversed32(join32(p[at + 3], p[at + 2], p[at + 1], p[at]))
+    swap_octets32(be32(p[at + 3], p[at + 2], p[at + 1], p[at]))
 }
 
-fn read64(p: &[u8], at: usize) -> u64
+fn load_be64(p: &[u8], at: usize) -> u64
     requires { ⌜ at + 8 ≤ length (now p) ⌝ }
     ensures { λ r. ⌜ r ≡ bigEndian (part at 8 (now (p .entry))) ⌝ }
 {
-    join64(read32(p, at), read32(p, at + 4))
+    from_halves(load_be32(p, at), load_be32(p, at + 4))
 }
 
 // The number of the four octets from index at on, and 0 where there are not so many.
-pub fn number32(p: &[u8], at: usize) -> u32
-    ensures { λ r. ⌜ r ≡ numberAt 4 (now (p .entry)) at ⌝ }
+pub fn read_be32(p: &[u8], at: usize) -> u32
+    ensures { λ r. ⌜ r ≡ readAt 4 (now (p .entry)) at ⌝ }
 {
     if has_room(p.len(), at, 4) {
-        read32(p, at)
+        load_be32(p, at)
     } else {
         0
     }
 }
 
-pub fn number64(p: &[u8], at: usize) -> u64
-    ensures { λ r. ⌜ r ≡ numberAt 8 (now (p .entry)) at ⌝ }
+pub fn read_be64(p: &[u8], at: usize) -> u64
+    ensures { λ r. ⌜ r ≡ readAt 8 (now (p .entry)) at ⌝ }
 {
     if has_room(p.len(), at, 8) {
-        read64(p, at)
+        load_be64(p, at)
     } else {
         0
     }
@@ -87,35 +87,35 @@ fn store_reversed(b: &mut [u8], at: usize, y: u32)
     );
 }
 
-fn store32(b: &mut [u8], at: usize, x: u32)
+fn store_be32(b: &mut [u8], at: usize, x: u32)
     requires { ⌜ at + 4 ≤ length (now b) ⌝ }
     ensures { λ _. ⌜ now (b .exit) ≡ sets (now (b .entry)) at (octets 4 x) ⌝ }
 {
-    store_reversed(b, at, reversed32(x));
+    store_reversed(b, at, swap_octets32(x));
 }
 
-fn store64(b: &mut [u8], at: usize, x: u64)
+fn store_be64(b: &mut [u8], at: usize, x: u64)
     requires { ⌜ at + 8 ≤ length (now b) ⌝ }
     ensures { λ _. ⌜ now (b .exit) ≡ sets (now (b .entry)) at (octets 8 x) ⌝ }
 {
-    let y = reversed64(x);
+    let y = swap_octets64(x);
     store_reversed(b, at, (y % 4294967296) as u32);
     store_reversed(b, at + 4, (y / 4294967296) as u32);
 }
 
 // Stores the four octets of x from index at on, and nothing where there is no room for them.
-pub fn put32(b: &mut [u8], at: usize, x: u32)
-    ensures { λ _. ⌜ now (b .exit) ≡ putNumber 4 (now (b .entry)) at x ⌝ }
+pub fn write_be32(b: &mut [u8], at: usize, x: u32)
+    ensures { λ _. ⌜ now (b .exit) ≡ writeAt 4 (now (b .entry)) at x ⌝ }
 {
     if has_room(b.len(), at, 4) {
-        store32(b, at, x);
+        store_be32(b, at, x);
     }
 }
 
-pub fn put64(b: &mut [u8], at: usize, x: u64)
-    ensures { λ _. ⌜ now (b .exit) ≡ putNumber 8 (now (b .entry)) at x ⌝ }
+pub fn write_be64(b: &mut [u8], at: usize, x: u64)
+    ensures { λ _. ⌜ now (b .exit) ≡ writeAt 8 (now (b .entry)) at x ⌝ }
 {
     if has_room(b.len(), at, 8) {
-        store64(b, at, x);
+        store_be64(b, at, x);
     }
 }

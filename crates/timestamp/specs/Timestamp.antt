@@ -4,7 +4,7 @@ use mathlib.Core.Bool.{Bool}
 use lib.Dec.{eqb}
 use lib.IntN.{ℤ, pos}
 use lib.Signed.{ltZ}
-use Rattle.numbers.specs.TwosComplement.{difference}
+use Rattle.arithmetic.specs.TwosComplement.{difference}
 use Rattle.timestamp.specs.declared.Timestamp.{Timestamp}
 use Rattle.timestamp.specs.declared.Constants.{Constants}
 
@@ -29,9 +29,9 @@ abbrev pub isZero : Timestamp → Bool
 isZero t = eqb (t .0) 0
 
 -- the difference x - y, taken modulo 2^64 and read as a signed number
-infixl 60 _⊖_
-unfoldable pub _⊖_ : Timestamp → Timestamp → ℤ
-x ⊖ y = difference 64 (x .0) (y .0)
+infixl 60 _since_
+unfoldable pub _since_ : Timestamp → Timestamp → ℤ
+x since y = difference 64 (x .0) (y .0)
 
 abbrev pub negative : ℤ → Bool
 negative z = ltZ z (pos 0)

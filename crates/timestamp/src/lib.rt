@@ -1,6 +1,6 @@
 // A timestamp: 32 bits of seconds and 32 of fraction, so that one unit is 2^-32 s.
 ghost use mathlib.Core.Path.{_≡_};
-ghost use Rattle.timestamp.specs.Timestamp.{timestamp, fromSeconds, secondsOf, fractionOf, constants, isZero, _⊖_};
+ghost use Rattle.timestamp.specs.Timestamp.{timestamp, fromSeconds, secondsOf, fractionOf, constants, isZero, _since_};
 
 // A type of its own: the type checker keeps it apart from a difference, which is an i64.
 pub struct Timestamp(pub u64);
@@ -67,7 +67,7 @@ impl Timestamp {
 
     // The signed difference self - other, right also across the wrap of 2036.
     pub fn minus(self, other: Timestamp) -> i64
-        ensures { λ r. ⌜ r ≡ self ⊖ other ⌝ }
+        ensures { λ r. ⌜ r ≡ self since other ⌝ }
     {
         twos_complement::signed64(std::num::wrapping_sub_u64(self.0, other.0))
     }

@@ -12,8 +12,8 @@ use mir.Syntax.{Width}
 use mir.Val.{Fits, SFits, toZ, ofZ}
 use mir.Val as val
 use mir.ValLaws.{toZ-ofZ, toZ-pos, half-full, ofZ-fits}
-use Rattle.numbers.specs.TwosComplement.{signed, bits}
-use Rattle.numbers.proofs.Machine.{signed-toZ, bits-ofZ, held}
+use Rattle.arithmetic.specs.TwosComplement.{signed, bits}
+use Rattle.arithmetic.proofs.Machine.{signed-toZ, bits-ofZ, held}
 
 -- ---- bits to number: the lower half as they are, the upper half by their complement, which `!` takes back
 

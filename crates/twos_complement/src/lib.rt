@@ -1,6 +1,6 @@
 // Two's complement, in code.
 ghost use mathlib.Core.Path.{_≡_};
-ghost use Rattle.numbers.specs.TwosComplement.{signed, bits};
+ghost use Rattle.arithmetic.specs.TwosComplement.{signed, bits};
 
 // The signed number that the bits of x stand for. `!x` is -1 - x.
 pub fn signed8(x: u8) -> i8

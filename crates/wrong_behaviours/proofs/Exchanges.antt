@@ -10,9 +10,9 @@ use lib.IntN.{ℤ, pos, negℤ, natAbs, _+ℤ_, _-ℤ_}
 use lib.ListN.{take, drop}
 use lib.Signed.{leZ}
 use mir.Facts.{yes-and}
-use Rattle.numbers.specs.TwosComplement.{bits}
-use Rattle.numbers.specs.Octets.{octets}
-use Rattle.numbers.proofs.Whole.{whole-le}
+use Rattle.arithmetic.specs.TwosComplement.{bits}
+use Rattle.arithmetic.specs.Octets.{octets}
+use Rattle.arithmetic.proofs.Integers.{integers-le}
 use Rattle.timestamp.specs.declared.Timestamp.{Timestamp}
 use Rattle.offset.specs.Halving.{twice}
 use Rattle.client.specs.declared.Client.{Client}
@@ -100,6 +100,6 @@ module _ (e : Exchange) where
     pub in-bound : T (inBound (theArrival b (run e) .result))
     in-bound =
         let c = concluded in
-        let same = whole-le {a = delay} {b = delay} (omega arith) in
+        let same = integers-le {a = delay} {b = delay} (omega arith) in
         subst (λ r. T (inBound r)) (sym (c .reply))
         (yes-and (near (c .offset) (c .half) delay) (leZ delay delay && leb (c .half) 1) (c .bound .le) (yes-and (leZ delay delay) (leb (c .half) 1) (same .le) (le→leb (c .half) 1 (c .half-0-or-1))))

@@ -10,12 +10,12 @@ use lib.ListN.{getD, replicate}
 use lib.IntN.{ℤ, pos, negsuc, natAbs, _+ℤ_, _-ℤ_}
 use lib.Signed.{leZ, leZ-yes, _≤ℤ_}
 use mir.Facts.{and-yes}
-use Rattle.numbers.specs.Modulo.{_modulo_}
-use Rattle.numbers.specs.TwosComplement.{signed, bits, difference}
-use Rattle.numbers.specs.Octets.{octets}
-use Rattle.numbers.proofs.Whole.{whole, size, minus}
+use Rattle.arithmetic.specs.Modulo.{_modulo_}
+use Rattle.arithmetic.specs.TwosComplement.{signed, bits, difference}
+use Rattle.arithmetic.specs.Octets.{octets}
+use Rattle.arithmetic.proofs.Integers.{integers, size, minus}
 use Rattle.refusals.specs.Numbers.{line-malformed}
-use Rattle.timestamp.specs.Timestamp.{timestamp, fromSeconds, _⊖_}
+use Rattle.timestamp.specs.Timestamp.{timestamp, fromSeconds, _since_}
 use Rattle.offset.specs.Offset as offset
 use Rattle.offset.specs.Offset.{floorHalf, halfOf, offsetTests}
 use Rattle.offset.specs.Halving.{twice}
@@ -29,7 +29,7 @@ use Rattle.precision.specs.Precision.{least, precisionOf}
 use Rattle.poll.specs.Poll.{tooSoon}
 use Rattle.client.specs.declared.Client.{Client}
 use Rattle.client.specs.Record.{fresh, isWaiting, illegal}
-use Rattle.client.specs.Ask.{askTests, asked, askedBuffer}
+use Rattle.client.specs.Ask.{askTests, afterAsk, afterAskBuffer}
 use Rattle.client.specs.Ask as requests
 use Rattle.client.specs.Arrival.{arrived}
 use Rattle.client.specs.Arrival as arrivals
@@ -40,9 +40,9 @@ use Rattle.server.specs.declared.ReplyAnswer.{ReplyAnswer}
 use Rattle.server.specs.Server.{requestTests, replyFields}
 use Rattle.server.specs.Server as server
 use Rattle.ledger.specs.declared.Ledger.{Ledger}
-use Rattle.ledger.specs.Ledger.{tooMuch, tooLarge, entryTests, payment, tickTests}
-use Rattle.lines.specs.Lines.{digitOf}
-use Rattle.frames.specs.Frames.{Reply, callOf}
+use Rattle.ledger.specs.Ledger.{debtTooLarge, entryTooLarge, entryTests, payment, tickTests}
+use Rattle.hex_decode.specs.Lines.{digitOf}
+use Rattle.frames.specs.Frames.{LineAnswer, callOf}
 use Rattle.demands.specs.Form.{refusal, acceptance, Implementation}
 use Rattle.demands.specs.Client as clients
 use Rattle.demands.specs.Reply.{Request}
@@ -61,7 +61,7 @@ use Rattle.wrong_behaviours.proofs.Exchanges.{slowBack, slowOut, bothOd
 
 -- no result is in the bound of two servers that are 2000 units apart
 not-both : (r : Result) → T (inBound slowBack r) → T (inBound otherServer r) → ⊥
-unfolding reading _modulo_ _⊖_ difference signed
+unfolding reading _modulo_ _since_ difference signed
 not-both (refused n) s t = s
 not-both done s t = s
 not-both (accepted o h δ) s t =
@@ -72,7 +72,7 @@ not-both (accepted o h δ) s t =
     let l : pos (natAbs (x -ℤ negsuc 1999)) ≤ℤ δ = leZ-yes low in
     let u : pos (natAbs (x -ℤ pos 2000)) ≤ℤ δ = leZ-yes high in
     let m : δ ≤ℤ pos 7 = leZ-yes short in
-    omega (arith, whole, size (x -ℤ negsuc 1999), size (x -ℤ pos 2000), minus x (negsuc 1999), minus x (pos 2000))
+    omega (arith, integers, size (x -ℤ negsuc 1999), size (x -ℤ pos 2000), minus x (negsuc 1999), minus x (pos 2000))
 not-both (kiss code row) s t = s
 
 -- ---- the calendar, the precision octet and the replay
@@ -96,7 +96,7 @@ rounded-down = differs (each behaviour.precision .answers) 3 (λ o. leZ (getD (f
 abbrev giveUpLine : ℕ → List ℕ
 giveUpLine zeros = 65 ∷ 51 ∷ replicate zeros 48
 
-abbrev malformed : Reply → Bool
+abbrev malformed : LineAnswer → Bool
 malformed r = eqb (getD (r .octets) 0 0) line-malformed
 
 refuses-every-line : Fails2 behaviour.line refusingLines
@@ -110,7 +110,7 @@ accepts-odd-digits = differs (each behaviour.line .answers) (fresh, giveUpLine 3
 -- an empty line, to a client that waits
 starts-afresh : (c : Client) → T (isWaiting (c .phase)) → Fails1 behaviour.line startingAfresh
 unfolding callOf
-starts-afresh c waits demand = subst (λ (r : Reply). T (isWaiting (r .client .phase))) (sym (demand .unchanged (c, []) refl)) waits
+starts-afresh c waits demand = subst (λ (r : LineAnswer). T (isWaiting (r .client .phase))) (sym (demand .unchanged (c, []) refl)) waits
 
 -- ---- the ledger
 
@@ -118,11 +118,11 @@ abbrev owing : ℤ → Ledger
 owing debt = record { debt = debt }
 
 takes-every-entry : Fails2 behaviour.entry takingEntries
-unfolding entryTests tooMuch tooLarge
+unfolding entryTests debtTooLarge entryTooLarge
 takes-every-entry = differs (each behaviour.entry .answers) (record { ledger = owing (pos 0); offset = pos 0; half = 2 }) (λ o. eqb (form behaviour.entry .shown o .number) 0) tt tt
 
 pays-all : Fails2 behaviour.tick payingAll
-unfolding tickTests tooMuch payment
+unfolding tickTests debtTooLarge payment
 pays-all = differs (each behaviour.tick .answers) (record { ledger = owing (pos 2); limit = 1 }) (λ o. leZ (o .ledger .debt) (pos 0)) tt tt
 
 -- what is seen of an answer
@@ -141,15 +141,15 @@ number o = clients.client .shown o .number
 
 module _ (f : Implementation clients.client) where
   back : T (tells-other (negsuc 1003) 1 (pos 7) (f (replied slowBack))) → Fails2 client f
-  unfolding arrived arrivals.arrivalAnswer arrivals.waitingTests checkTests offsetTests _⊖_ difference signed _modulo_ floorHalf halfOf offset.outOfRange fieldsOf octetsOf octets requests.request illegal askTests asked askedBuffer server.replied server.repliedBuffer server.replyTests requestTests server.outOfRange replyFields reading tooSoon gaveUp giveUpTests bits
+  unfolding arrived arrivals.arrivalAnswer arrivals.waitingTests checkTests offsetTests _since_ difference signed _modulo_ floorHalf halfOf offset.outOfRange fieldsOf octetsOf octets requests.request illegal askTests afterAsk afterAskBuffer server.replied server.repliedBuffer server.replyTests requestTests server.outOfRange replyFields reading tooSoon gaveUp giveUpTests bits
   back seen = differs (each client .answers) (replied slowBack) (tells-other (negsuc 1003) 1 (pos 7)) seen tt
 
   odd : T (tells-other (negsuc 1002) 0 (pos 8) (f (replied bothOdd))) → Fails2 client f
-  unfolding arrived arrivals.arrivalAnswer arrivals.waitingTests checkTests offsetTests _⊖_ difference signed _modulo_ floorHalf halfOf offset.outOfRange fieldsOf octetsOf octets requests.request illegal askTests asked askedBuffer server.replied server.repliedBuffer server.replyTests requestTests server.outOfRange replyFields reading tooSoon gaveUp giveUpTests bits
+  unfolding arrived arrivals.arrivalAnswer arrivals.waitingTests checkTests offsetTests _since_ difference signed _modulo_ floorHalf halfOf offset.outOfRange fieldsOf octetsOf octets requests.request illegal askTests afterAsk afterAskBuffer server.replied server.repliedBuffer server.replyTests requestTests server.outOfRange replyFields reading tooSoon gaveUp giveUpTests bits
   odd seen = differs (each client .answers) (replied bothOdd) (tells-other (negsuc 1002) 0 (pos 8)) seen tt
 
   over-2036 : T (tells-other (pos 43486543872) 0 (pos 3221225472) (f (replied replay))) → Fails2 client f
-  unfolding arrived arrivals.arrivalAnswer arrivals.waitingTests checkTests offsetTests _⊖_ difference signed _modulo_ floorHalf halfOf offset.outOfRange fieldsOf octetsOf octets requests.request illegal askTests asked askedBuffer server.replied server.repliedBuffer server.replyTests requestTests server.outOfRange replyFields reading tooSoon gaveUp giveUpTests bits
+  unfolding arrived arrivals.arrivalAnswer arrivals.waitingTests checkTests offsetTests _since_ difference signed _modulo_ floorHalf halfOf offset.outOfRange fieldsOf octetsOf octets requests.request illegal askTests afterAsk afterAskBuffer server.replied server.repliedBuffer server.replyTests requestTests server.outOfRange replyFields reading tooSoon gaveUp giveUpTests bits
   over-2036 seen = differs (each client .answers) (replied replay) (tells-other (pos 43486543872) 0 (pos 3221225472)) seen tt
 
   -- a reply with root fields out of range, of which this number is told, and not by ours
@@ -165,7 +165,7 @@ abbrev accepted-ask : acceptance ≢ refusal
 accepted-ask = acceptance-shown .0
 
 pub refuted : Refuted
-unfolding arrived arrivals.arrivalAnswer arrivals.waitingTests checkTests offsetTests _⊖_ difference signed _modulo_ floorHalf halfOf offset.outOfRange fieldsOf octetsOf octets requests.request illegal askTests asked askedBuffer server.replied server.repliedBuffer server.replyTests requestTests server.outOfRange replyFields reading tooSoon gaveUp giveUpTests bits
+unfolding arrived arrivals.arrivalAnswer arrivals.waitingTests checkTests offsetTests _since_ difference signed _modulo_ floorHalf halfOf offset.outOfRange fieldsOf octetsOf octets requests.request illegal askTests afterAsk afterAskBuffer server.replied server.repliedBuffer server.replyTests requestTests server.outOfRange replyFields reading tooSoon gaveUp giveUpTests bits
 refuted =
     let at-back = orderly slowBack tt in
     let at-out = orderly slowOut tt in
@@ -173,7 +173,7 @@ refuted =
     record {
       refuses-everything = λ number. back (refusing number) tt;
       refuses-by-0 = λ demand. demand .listed (fresh, giveUp (record { uptime = 0 })) refl;
-      never-asks = λ number r p. absurd (p .asked refl);
+      never-asks = λ number r p. absurd (p .ask-accepted refl);
       takes-no-reply = λ number. (back (takingNone number) tt, in-bound-at (takingNone number) slowBack at-back accepted-ask tt);
       stays-waiting = back stayingWaiting tt;
       offset-zero = (back (measuring zeroOffset) tt, in-bound-at (measuring zeroOffset) slowBack at-back accepted-ask tt);

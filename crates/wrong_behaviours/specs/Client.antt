@@ -6,21 +6,21 @@ use lib.Dec.{eqb}
 use lib.IntN.{ℤ, pos, _+ℤ_, _-ℤ_}
 use lib.ListN.{length, take, drop}
 use lib.Signed.{quotZ, leZ}
-use Rattle.numbers.specs.TwosComplement.{signed}
+use Rattle.arithmetic.specs.TwosComplement.{signed}
 use Rattle.refusals.specs.Numbers.{record-not-legal, packet-length-wrong, not-waiting, arrived-before-sent, root-delay-out-of-range, root-dispersion-too-large}
 use Rattle.ordered_tests.specs.Tests.{Tests, _if_else_, _when_else_, answer, kept, carry}
 use Rattle.timestamp.specs.declared.Timestamp.{Timestamp}
-use Rattle.timestamp.specs.Timestamp.{_⊖_, negative}
+use Rattle.timestamp.specs.Timestamp.{_since_, negative}
 use Rattle.offset.specs.Offset.{floorHalf, offsetTests}
 use Rattle.packet.specs.declared.Fields.{Fields}
 use Rattle.packet.specs.Packet.{wrongLength, fieldsOf}
-use Rattle.sanity.specs.Sanity.{useTests, rootDelayOutOfRange, rootDispersionTooLarge, rootTests}
+use Rattle.sanity.specs.Sanity.{headerTests, rootDelayOutOfRange, rootDispersionTooLarge, rootTests}
 use Rattle.client.specs.declared.Client.{Client}
 use Rattle.client.specs.declared.Phase.the-variants.{Idle}
 use Rattle.reply_checks.specs.declared.ArrivalAnswer.{ArrivalAnswer}
 use Rattle.reply_checks.specs.Checks.{matchTests, fromOffset}
 use Rattle.kiss.specs.Kiss.{rowOf}
-use Rattle.client.specs.Record.{isWaiting, illegal, without}
+use Rattle.client.specs.Record.{isWaiting, illegal, withoutRequest}
 use Rattle.client.specs.Ask.{request}
 use Rattle.client.specs.Arrival.{arrivalTests, after}
 use Rattle.client.specs.Calls.{Arrival, Call, ask, arrival, giveUp, lent, Result, refused, done, accepted, kiss, Outcome, saidArrival, step}
@@ -61,7 +61,7 @@ stayingWaiting = arriving (λ c x. record { result = step c (arrival x) .result;
 
 -- it spends the request on a refused arrival
 abbrev spent : Client → Client
-spent c = cond (isWaiting (c .phase)) (without c Idle (c .exponent)) c
+spent c = cond (isWaiting (c .phase)) (withoutRequest c Idle (c .exponent)) c
 
 abbrev pub spending : Implementation client
 spending = arriving (λ c x. record {
@@ -98,7 +98,7 @@ checking rest = testing (λ c x.
     not-waiting if not (isWaiting (c .phase)) else
     matchTests (c .transmit) (c .version) f (
     kissed f when eqb (f .stratum) 0 else
-    useTests f (x .t4) (rest c f (x .t4))))
+    headerTests f (x .t4) (rest c f (x .t4))))
 
 -- the tests of the four timestamps, their differences taken so
 abbrev timed : (Timestamp → Timestamp → ℤ) → Client → Fields → Timestamp → Tests ArrivalAnswer
@@ -111,34 +111,34 @@ unsignedTimes = checking (λ c f t4. rootTests f (timed (λ x y. pos (x .0) -ℤ
 
 -- it does not look at the root fields
 abbrev pub rootUntested : Implementation client
-rootUntested = checking (timed _⊖_)
+rootUntested = checking (timed _since_)
 
 -- it makes no test for a negative root delay
 abbrev pub negativeDelayUntested : Implementation client
 negativeDelayUntested = checking (λ c f t4.
     root-delay-out-of-range if leZ (pos 65536) (f .«root_delay») else
     root-dispersion-too-large if rootDispersionTooLarge (f .«root_dispersion») else
-    timed _⊖_ c f t4)
+    timed _since_ c f t4)
 
 -- it reads root dispersion as a signed number
 abbrev pub dispersionSigned : Implementation client
 dispersionSigned = checking (λ c f t4.
     root-delay-out-of-range if rootDelayOutOfRange (f .«root_delay») else
     root-dispersion-too-large if leZ (pos 65536) (signed 32 (f .«root_dispersion»)) else
-    timed _⊖_ c f t4)
+    timed _since_ c f t4)
 
 -- it tests root dispersion before root delay
 abbrev pub rootSwapped : Implementation client
 rootSwapped = checking (λ c f t4.
     root-dispersion-too-large if rootDispersionTooLarge (f .«root_dispersion») else
     root-delay-out-of-range if rootDelayOutOfRange (f .«root_delay») else
-    timed _⊖_ c f t4)
+    timed _since_ c f t4)
 
 -- it tests the root fields after T4 - T1
 abbrev pub rootAfter15 : Implementation client
 rootAfter15 = checking (λ c f t4.
-    arrived-before-sent if negative (t4 ⊖ c .transmit) else
-    rootTests f (timed _⊖_ c f t4))
+    arrived-before-sent if negative (t4 since c .transmit) else
+    rootTests f (timed _since_ c f t4))
 
 -- ---- at a reply that ours accepts: it tells something else
 

@@ -5,7 +5,7 @@ use mathlib.Core.List.{List, [], _∷_, _++_}
 use lib.Dec.{eqb, leb, ltb}
 use lib.IntN.{pos, _+ℤ_, _-ℤ_}
 use lib.ListN.{length, take, drop, replicate}
-use Rattle.numbers.specs.Octets.{part}
+use Rattle.arithmetic.specs.Octets.{part}
 use Rattle.refusals.specs.Numbers.{packet-length-wrong, timestamp-zero, no-such-date, outside-window, tick-out-of-range, line-malformed}
 use Rattle.ordered_tests.specs.Tests.{_if_else_, otherwise, answer}
 use Rattle.timestamp.specs.declared.Timestamp.{Timestamp}
@@ -27,7 +27,7 @@ use Rattle.server.specs.declared.ReplyAnswer.{ReplyAnswer}
 use Rattle.server.specs.Server.{replyFields}
 use Rattle.ledger.specs.declared.EntryAnswer.{EntryAnswer}
 use Rattle.ledger.specs.declared.TickAnswer.{TickAnswer}
-use Rattle.lines.specs.Decoding.{decode}
+use Rattle.hex_decode.specs.Decoding.{decode}
 use Rattle.frames.specs.Frames.{Parsed, call, malformed, parsed}
 use Rattle.demands.specs.Form.{Implementation}
 use Rattle.demands.specs.Reply as replies

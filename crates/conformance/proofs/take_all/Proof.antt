@@ -3,7 +3,7 @@ use Prim.Native.Nat.{_-_}
 use mathlib.Core.Path.{_≡_}
 use lib.ListN.{length}
 use borrow.Author.Needs.{needs}
-use Rattle.lines.proofs.ToLineFeed.{not-back}
+use Rattle.hex_decode.proofs.ToLineFeed.{not-back}
 use Rattle.conformance.proofs.take_all.Statement.{statement}
 use Rattle.conformance.proofs.take_all.Tie as tie
 
@@ -17,7 +17,7 @@ loop-less : tie.Need-loop-less Inv-loop μ-loop
 loop-less c =
     let t = c .before .before .before .before .before .before .before .before .before .before in
     let l = t .before .before .before in
-    let on = not-back (l .loop .line) _ _ (l .loop .i) (t .take .result) (t .take .ensures .0) in
+    let on = not-back (l .loop .line) _ _ (l .loop .i) (t .push-line .result) (t .push-line .ensures .0) in
     search needs
 
 loop-less-2 : tie.Need-loop-less-2 Inv-loop μ-loop

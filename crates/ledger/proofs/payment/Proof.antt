@@ -18,7 +18,7 @@ use Rattle.ledger.proofs.payment.Tie as tie
 smaller : (c : tie.After-least) → c .least .result ≡ min (natAbs (c .before .before .args .debt)) (c .before .before .args .limit)
 smaller c =
     let s = c .before .before in
-    c .least .ensures ∙ ap (λ n. min n (s .args .limit)) (c .before .size .ensures ∙ ap natAbs (toZ-ofZ (s .fits .debt)))
+    c .least .ensures ∙ ap (λ n. min n (s .args .limit)) (c .before .magnitude .ensures ∙ ap natAbs (toZ-ofZ (s .fits .debt)))
 
 small : (c : tie.After-least) → c .least .result < 2 ^ 50
 small c =

@@ -2,12 +2,12 @@
 use mathlib.Core.Path.{_≡_, refl, _∙_}
 use mir.Syntax.{w64}
 use mir.Facts.{toZ-ofZ}
-use Rattle.numbers.proofs.Machine.{held}
+use Rattle.arithmetic.proofs.Machine.{held}
 use Rattle.ordered_tests.specs.Tests.{Tests, number}
 use Rattle.ordered_tests.proofs.Tests.{At, starts, goes-on, returned}
 use Rattle.offset.specs.declared.OffsetAnswer.{OffsetAnswer}
 use Rattle.offset.specs.Offset.{offsetTests}
-use Rattle.offset.proofs.Judged.{lt-minus}
+use Rattle.offset.proofs.Differences.{lt-minus}
 use Rattle.offset.proofs.first_refusal.Statement.{statement}
 use Rattle.offset.proofs.first_refusal.Tie as tie
 

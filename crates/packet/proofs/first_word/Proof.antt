@@ -19,7 +19,7 @@ returns c =
     let o = c .before .before .before .first-octet in
     let f = c .before .before .before .before .args .fields in
     let p = t .given .1 .1 .1 .1 .1 .0 .1 in
-    rw (c .join32 .ensures, octets-four (o .result) (f .stratum) (f .poll) (b .result) (omega arith, omega arith, omega arith, omega arith), o .ensures, b .ensures, toZ-ofZ w8 (f .precision) (record { sfits = p }))
+    rw (c .be32 .ensures, octets-four (o .result) (f .stratum) (f .poll) (b .result) (omega arith, omega arith, omega arith, omega arith), o .ensures, b .ensures, toZ-ofZ w8 (f .precision) (record { sfits = p }))
 
 pub first-word-spec : {M : Type 1} → statement M
 first-word-spec = tie.close (tie.spec first-octet-requires (λ c κs. search needs) (λ c κs. search needs) returns)

@@ -15,11 +15,11 @@ returns c =
 returns-2 : tie.Need-returns-2
 returns-2 c =
     let long = le-ltb _ _ (c .before .before .if1 .left) in
-    let large = sym (c .before .too-large .ensures) ∙ c .if2 .taken in
+    let large = sym (c .before .field-too-large .ensures) ∙ c .if2 .taken in
     (rw (long, large), rw (long, large))
 
 put-fields-requires : tie.Need-put-fields-requires
-put-fields-requires c κs = (search needs, sym (c .before .before .too-large .ensures) ∙ c .before .if2 .left)
+put-fields-requires c κs = (search needs, sym (c .before .before .field-too-large .ensures) ∙ c .before .if2 .left)
 
 returns-3 : tie.Need-returns-3
 returns-3 c =
@@ -27,7 +27,7 @@ returns-3 c =
     let c2 = put .before .before in
     let room = c2 .before .before in
     let a = room .before .before .args in
-    let small = sym (c2 .before .too-large .ensures) ∙ c2 .if2 .left in
+    let small = sym (c2 .before .field-too-large .ensures) ∙ c2 .if2 .left in
     (sym (answer-written (now (a .buffer)) (a .fields) (room .if1 .left) small), put .put-fields .ensures ∙ stored (now (a .buffer)) (a .fields) (room .if1 .left) small)
 
 pub write-spec : {M : Type 1} → statement M

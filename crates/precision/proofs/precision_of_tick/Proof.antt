@@ -5,7 +5,7 @@ use borrow.Author.Tests.{eq-eqb, ne-eqb, lt-ltb, le-ltb}
 use lib.Count.{leading-le}
 use lib.IntN.{pos, _-ℤ_}
 use mir.Syntax.{w8}
-use Rattle.numbers.proofs.Machine.{told}
+use Rattle.arithmetic.proofs.Machine.{held-result}
 use Rattle.precision.specs.Precision.{precisionOf}
 use Rattle.precision.specs.declared.PrecisionAnswer.{PrecisionAnswer}
 use Rattle.precision.proofs.Least.{length-is}
@@ -26,7 +26,7 @@ returns-3 c =
     let some = c .before .before .if1 .left in
     let within = c .before .if2 .left in
     simp (ne-eqb _ _ some, le-ltb _ _ within)
-    (ap PrecisionAnswer.Precision (told w8 (c .in-seconds .ok) (c .in-seconds .ensures) ∙ ap (λ k. pos k -ℤ pos 32) (length-is _ some within)))
+    (ap PrecisionAnswer.Precision (held-result w8 (c .in-seconds .ok) (c .in-seconds .ensures) ∙ ap (λ k. pos k -ℤ pos 32) (length-is _ some within)))
 
 pub precision-of-tick-spec : {M : Type 1} → statement M
 precision-of-tick-spec =

@@ -6,12 +6,12 @@ use mir.Val.{SFits}
 use mir.Facts.{toZ-ofZ}
 use Rattle.ordered_tests.specs.Tests.{Tests, pass}
 use Rattle.ordered_tests.proofs.Tests.{At, starts, goes-on, returned}
-use Rattle.sanity.specs.Sanity.{useTests, rootDelayOutOfRange, rootTests}
+use Rattle.sanity.specs.Sanity.{headerTests, rootDelayOutOfRange, rootTests}
 use Rattle.sanity.proofs.first_refusal.Statement.{statement}
 use Rattle.sanity.proofs.first_refusal.Tie as tie
 
 abbrev table : tie.Start → Tests (Unit {0})
-table s = useTests (s .args .f) (s .args .t4) (rootTests (s .args .f) pass)
+table s = headerTests (s .args .f) (s .args .t4) (rootTests (s .args .f) pass)
 
 returns : tie.Need-returns
 returns c = returned {t = table (c .before .before)} starts (rw (c .before .is-zero .ensures) at (c .if1 .taken))

@@ -3,7 +3,7 @@ use mathlib.Core.Path.{refl}
 use mathlib.Core.Bool.{not}
 use borrow.Author.Tests.{eq-eqb, ne-eqb}
 use mir.Syntax.{w64}
-use Rattle.numbers.proofs.Machine.{told}
+use Rattle.arithmetic.proofs.Machine.{held-result}
 use Rattle.ordered_tests.specs.Tests.{Tests}
 use Rattle.ordered_tests.proofs.Tests.{At, starts, goes-on, returned}
 use Rattle.server.specs.Server.{requestTests}
@@ -59,13 +59,13 @@ returns-5 : tie.Need-returns-5
 unfolding requestTests
 returns-5 c =
     let hold = c .before .before in
-    returned (at-4 (hold .before)) (rw (told w64 (hold .minus .ok) (hold .minus .ensures)) at (c .if5 .taken))
+    returned (at-4 (hold .before)) (rw (held-result w64 (hold .minus .ok) (hold .minus .ensures)) at (c .if5 .taken))
 
 returns-6 : tie.Need-returns-6
 unfolding requestTests
 returns-6 c =
     let hold = c .before .before in
-    returned (goes-on (at-4 (hold .before)) (rw (told w64 (hold .minus .ok) (hold .minus .ensures)) at (c .if5 .left))) refl
+    returned (goes-on (at-4 (hold .before)) (rw (held-result w64 (hold .minus .ok) (hold .minus .ensures)) at (c .if5 .left))) refl
 
 pub first-refusal-spec : {M : Type 1} → statement M
 first-refusal-spec = tie.close (tie.spec returns _ returns-2 _ returns-3 _ _ returns-4 _ returns-5 returns-6)

@@ -1,6 +1,6 @@
 -- `slices::store_reversed` meets its contract: the octets that it stores are the remainders by 256, the lowest first. Assumes nothing.
 use native.Mathlib.Nat.{div-one}
-use Rattle.numbers.specs.Octets.{octets}
+use Rattle.arithmetic.specs.Octets.{octets}
 use borrow.Author.Needs.{needs}
 use Rattle.slices.proofs.store_reversed.Statement.{statement}
 use Rattle.slices.proofs.store_reversed.Tie as tie

@@ -11,12 +11,12 @@ returns c = sym (ap (after (c .before .before .before .args .self)) (c .before .
 returns-2 : tie.Need-returns-2
 returns-2 c =
     let m = c .before .before in
-    c .without .ensures ∙ sym (ap (after (m .before .before .args .self)) (m .answer2 .given .1))
+    c .without-request .ensures ∙ sym (ap (after (m .before .before .args .self)) (m .answer2 .given .1))
 
 returns-3 : tie.Need-returns-3
 returns-3 c =
     let m = c .before .before in
-    c .without2 .ensures ∙ sym (ap (after (m .before .before .args .self)) (m .answer3 .given .1))
+    c .without-request2 .ensures ∙ sym (ap (after (m .before .before .args .self)) (m .answer3 .given .1))
 
 pub after-spec : {M : Type 1} → statement M
 after-spec = tie.close (tie.spec (λ c. search needs) (λ c. search needs) _ (λ c. search needs) _ returns returns-2 returns-3)

@@ -8,24 +8,24 @@ use mir.Syntax.{w64}
 use mir.Val.{SFits}
 use mir.Facts.{toZ-ofZ}
 use borrow.Author.Needs.{needs}
-use Rattle.ledger.specs.Ledger.{halfUnits, tooMuch, tooLarge, entryTests}
+use Rattle.ledger.specs.Ledger.{halfUnits, debtTooLarge, entryTooLarge, entryTests}
 use Rattle.ledger.proofs.Sizes.{not-much, not-large}
 use Rattle.ledger.proofs.Ledger.entry.Statement.{statement}
 use Rattle.ledger.proofs.Ledger.entry.Tie as tie
 
 -- the tests, of the numbers themselves
-legal : (c : tie.After-too-much) → c .too-much .result ≡ tooMuch (c .before .before .args .self .debt)
+legal : (c : tie.After-debt-too-large) → c .debt-too-large .result ≡ debtTooLarge (c .before .before .args .self .debt)
 legal c =
     let d : SFits w64 (c .before .before .args .self .debt) = search needs in
-    c .too-much .ensures ∙ ap tooMuch (toZ-ofZ d)
+    c .debt-too-large .ensures ∙ ap debtTooLarge (toZ-ofZ d)
 
-abbrev start : tie.After-too-large → tie.Start
+abbrev start : tie.After-entry-too-large → tie.Start
 start c = c .before .before .before .before
 
-small : (c : tie.After-too-large) → c .too-large .result ≡ tooLarge (start c .args .offset) (start c .args .half)
+small : (c : tie.After-entry-too-large) → c .entry-too-large .result ≡ entryTooLarge (start c .args .offset) (start c .args .half)
 small c =
     let s = start c in
-    c .too-large .ensures ∙ ap (λ z. tooLarge z (s .args .half)) (toZ-ofZ (s .fits .offset))
+    c .entry-too-large .ensures ∙ ap (λ z. entryTooLarge z (s .args .half)) (toZ-ofZ (s .fits .offset))
 
 returns : tie.Need-returns
 unfolding entryTests
@@ -77,10 +77,10 @@ owed c =
     let r : SFits w64 (h .half-units .result) = search needs in
     c .sum .ensures ∙ (λ i. toZ-ofZ d i +ℤ (toZ-ofZ r ∙ units h) i)
 
-reached : (c : tie.After-too-much2) → c .too-much2 .result ≡ tooMuch (start-sum (c .before) .args .self .debt +ℤ entered (start-sum (c .before)))
+reached : (c : tie.After-debt-too-large2) → c .debt-too-large2 .result ≡ debtTooLarge (start-sum (c .before) .args .self .debt +ℤ entered (start-sum (c .before)))
 reached c =
     let r : SFits w64 (c .before .sum .result) = search needs in
-    c .too-much2 .ensures ∙ ap tooMuch (toZ-ofZ r ∙ owed (c .before))
+    c .debt-too-large2 .ensures ∙ ap debtTooLarge (toZ-ofZ r ∙ owed (c .before))
 
 returns-3 : tie.Need-returns-3
 unfolding entryTests

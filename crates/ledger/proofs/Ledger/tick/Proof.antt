@@ -6,16 +6,16 @@ use mir.Syntax.{w64}
 use mir.Val.{SFits}
 use mir.Facts.{toZ-ofZ}
 use borrow.Author.Needs.{needs}
-use Rattle.ledger.specs.Ledger.{tooMuch, payment, tickTests}
+use Rattle.ledger.specs.Ledger.{debtTooLarge, payment, tickTests}
 use Rattle.ledger.proofs.Sizes.{not-much}
 use Rattle.ledger.proofs.Payments.{pays}
 use Rattle.ledger.proofs.Ledger.tick.Statement.{statement}
 use Rattle.ledger.proofs.Ledger.tick.Tie as tie
 
-legal : (c : tie.After-too-much) → c .too-much .result ≡ tooMuch (c .before .before .args .self .debt)
+legal : (c : tie.After-debt-too-large) → c .debt-too-large .result ≡ debtTooLarge (c .before .before .args .self .debt)
 legal c =
     let d : SFits w64 (c .before .before .args .self .debt) = search needs in
-    c .too-much .ensures ∙ ap tooMuch (toZ-ofZ d)
+    c .debt-too-large .ensures ∙ ap debtTooLarge (toZ-ofZ d)
 
 returns : tie.Need-returns
 unfolding tickTests

@@ -1,0 +1,5 @@
+pub mod Integers
+pub mod Modulo
+pub mod TwosComplement
+pub mod Machine
+pub mod Octets

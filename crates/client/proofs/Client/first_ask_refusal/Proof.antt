@@ -1,0 +1,74 @@
+-- `client::Client::first_ask_refusal` meets its contract: each return is at its row of the table. Assumes nothing.
+use mathlib.Core.Path.{refl}
+use borrow.Author.Tests.{lt-ltb, le-ltb}
+use Rattle.ordered_tests.specs.Tests.{Tests}
+use Rattle.ordered_tests.proofs.Tests.{At, starts, goes-on, returned}
+use Rattle.client.specs.declared.Called.{Called}
+use Rattle.client.specs.Ask.{askTests}
+use Rattle.client.proofs.Client.first_ask_refusal.Statement.{statement}
+use Rattle.client.proofs.Client.first_ask_refusal.Tie as tie
+
+abbrev table : tie.Start → Tests Called
+table s = askTests (s .args .self) (s .args .room) (s .args .version) (s .args .clock) (s .args .uptime)
+
+returns : tie.Need-returns
+unfolding askTests
+returns c = returned (starts {t = table (c .before .before)}) (rw (c .before .illegal .ensures) at (c .if1 .taken))
+
+at-1 : (c : tie.Else1) → At 1 (table (c .before .before))
+unfolding askTests
+at-1 c = goes-on starts (rw (c .before .illegal .ensures) at (c .if1 .left))
+
+returns-2 : tie.Need-returns-2
+unfolding askTests
+returns-2 c = returned (at-1 (c .before)) (lt-ltb _ _ (c .if2 .taken))
+
+at-2 : (c : tie.Else2) → At 2 (table (c .before .before .before))
+unfolding askTests
+at-2 c = goes-on (at-1 (c .before)) (le-ltb _ _ (c .if2 .left))
+
+returns-3 : tie.Need-returns-3
+unfolding askTests
+returns-3 c = returned (at-2 (c .before .before)) (rw (c .before .between .ensures) at (c .if3 .taken))
+
+abbrev start : tie.Else3 → tie.Start
+start c = c .before .before .before .before .before
+
+at-3 : (c : tie.Else3) → At 3 (table (start c))
+unfolding askTests
+at-3 c = goes-on (at-2 (c .before .before)) (rw (c .before .between .ensures) at (c .if3 .left))
+
+returns-4 : tie.Need-returns-4
+unfolding askTests
+returns-4 c = returned (at-3 (c .before .before)) (rw (c .before .is-zero .ensures) at (c .if4 .taken))
+
+at-4 : (c : tie.Else4) → At 4 (table (start (c .before .before)))
+unfolding askTests
+at-4 c = goes-on (at-3 (c .before .before)) (rw (c .before .is-zero .ensures) at (c .if4 .left))
+
+returns-5 : tie.Need-returns-5
+unfolding askTests
+returns-5 c = returned (at-4 (c .before .before)) (rw (c .before .is-stopped .ensures) at (c .if5 .taken))
+
+at-5 : (c : tie.Else5) → At 5 (table (start (c .before .before .before .before)))
+unfolding askTests
+at-5 c = goes-on (at-4 (c .before .before)) (rw (c .before .is-stopped .ensures) at (c .if5 .left))
+
+returns-6 : tie.Need-returns-6
+unfolding askTests
+returns-6 c = returned (at-5 (c .before .before)) (rw (c .before .is-waiting .ensures) at (c .if6 .taken))
+
+at-6 : (c : tie.Else6) → At 6 (table (start (c .before .before .before .before .before .before)))
+unfolding askTests
+at-6 c = goes-on (at-5 (c .before .before)) (rw (c .before .is-waiting .ensures) at (c .if6 .left))
+
+returns-7 : tie.Need-returns-7
+unfolding askTests
+returns-7 c = let soon = c .before .before in returned (at-6 (soon .before)) (rw (soon .within-interval .ensures) at (c .if7 .taken))
+
+returns-8 : tie.Need-returns-8
+unfolding askTests
+returns-8 c = let soon = c .before .before in returned (goes-on (at-6 (soon .before)) (rw (soon .within-interval .ensures) at (c .if7 .left))) refl
+
+pub first-ask-refusal-spec : {M : Type 1} → statement M
+first-ask-refusal-spec = tie.close (tie.spec _ returns returns-2 _ returns-3 _ returns-4 _ returns-5 _ returns-6 _ returns-7 returns-8)
