@@ -1,37 +1,21 @@
 // Arrival: what the client makes of a packet that came in.
 ghost use mathlib.Core.Path.{_≡_};
-ghost use Rattle.ordered_tests.specs.Tests.{answer};
-ghost use Rattle.reply_checks.specs.declared.ArrivalAnswer.{ArrivalAnswer};
-ghost use Rattle.client.specs.Arrival.{waitingTests, arrivalAnswer, after, arrived};
+ghost use Rattle.client.specs.Arrival.{arrivalAnswer, after, arrived};
 use crate::Arrived;
 use crate::Client;
 use crate::Phase;
-use packet::Fields;
-use packet::FieldsAnswer;
 use reply_checks::ArrivalAnswer;
 use timestamp::Timestamp;
 
 impl Client {
-    fn check_fields(self, f: Fields, t4: Timestamp) -> ArrivalAnswer
-        ensures { λ r. ⌜ r ≡ answer ArrivalAnswer.Refused (waitingTests self f t4) ⌝ }
-    {
-        let phase = self.phase;
-        if !phase.is_waiting() {
-            return ArrivalAnswer::Refused(refusals::NOT_WAITING);
-        }
-        reply_checks::check(self.transmit, self.version, f, t4)
-    }
-
     fn check_packet(self, packet: &[u8], t4: Timestamp) -> ArrivalAnswer
         ensures { λ r. ⌜ r ≡ arrivalAnswer self (now (packet .entry)) t4 ⌝ }
     {
         if self.illegal() {
             return ArrivalAnswer::Refused(refusals::RECORD_NOT_LEGAL);
         }
-        match packet::read(packet) {
-            FieldsAnswer::Refused(n) => ArrivalAnswer::Refused(n),
-            FieldsAnswer::Fields(f) => self.check_fields(f, t4),
-        }
+        let phase = self.phase;
+        reply_checks::check_packet(phase.is_waiting(), self.transmit, self.version, packet, t4)
     }
 
     // A kiss stops the client for good (RFC 4330, section 8); an accepted reply leaves it idle.

@@ -1,44 +1,15 @@
 // Ask: what the client sends.
 ghost use mathlib.Core.Path.{_≡_};
-ghost use mathlib.Core.List.{_++_};
-ghost use Prim.Native.Nat.{_≤_};
-ghost use lib.ListN.{length, drop};
+ghost use lib.ListN.{length};
 ghost use Rattle.ordered_tests.specs.Tests.{number};
-ghost use Rattle.packet.specs.Packet.{packetLength};
-ghost use Rattle.client.specs.Ask.{request, askTests, afterAsk, afterAskBuffer};
+ghost use Rattle.client.specs.Ask.{askTests, afterAsk, afterAskBuffer};
 use crate::CallAnswer;
 use crate::Called;
 use crate::Client;
 use crate::Phase;
 use ordered_tests::between;
-use packet::Fields;
 use poll::within_interval;
 use timestamp::Timestamp;
-
-// The 48 octets of a request: all zero but version, mode 3 and transmit timestamp.
-fn write_request(buffer: &mut [u8], version: u8, clock: Timestamp)
-    requires { ⌜ (packetLength ≤ length (now buffer)) × (version ≤ 7) ⌝ }
-    ensures { λ _. ⌜ now (buffer .exit) ≡ request version clock ++ drop packetLength (now (buffer .entry)) ⌝ }
-{
-    packet::write(
-        buffer,
-        Fields {
-            leap: 0,
-            version,
-            mode: 3,
-            stratum: 0,
-            poll: 0,
-            precision: 0,
-            root_delay: 0,
-            root_dispersion: 0,
-            identifier: 0,
-            reference: Timestamp::ZERO,
-            originate: Timestamp::ZERO,
-            receive: Timestamp::ZERO,
-            transmit: clock,
-        },
-    );
-}
 
 impl Client {
     fn first_ask_refusal(self, room: usize, version: u8, clock: Timestamp, uptime: u64) -> u8
@@ -81,7 +52,8 @@ impl Client {
                 client: self,
             };
         }
-        write_request(buffer, version, clock);
+        // Not refused: the buffer has room, and the version is not too large.
+        request::write(buffer, version, clock);
         Called {
             answer: CallAnswer::Done,
             client: Client {

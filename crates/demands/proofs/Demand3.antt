@@ -11,7 +11,7 @@ use Rattle.client.specs.declared.Client.{Client}
 use Rattle.client.specs.Ask.{waitingFor}
 use Rattle.client.specs.Calls as calls
 use Rattle.client.specs.Calls.{arrival, Outcome}
-use Rattle.client.proofs.Request.{requestFields}
+use Rattle.request.specs.Request.{requestFields}
 use Rattle.server.specs.Server.{replyFields, synchronisedFields}
 use Rattle.demands.specs.Form.{does}
 use Rattle.demands.specs.Arrival.{accepted, sanityRules, arrivalRules}

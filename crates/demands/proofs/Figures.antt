@@ -12,8 +12,8 @@ use Rattle.precision.specs.Precision.{least, precisionOf}
 use Rattle.poll.specs.Poll.{tooSoon}
 use Rattle.client.specs.Record.{illegal}
 use Rattle.client.specs.Ask.{askTests, afterAsk}
-use Rattle.client.specs.Arrival.{waitingTests, arrivalAnswer, arrived}
-use Rattle.reply_checks.specs.Checks.{checkTests}
+use Rattle.client.specs.Arrival.{arrivalAnswer, arrived}
+use Rattle.reply_checks.specs.Checks.{waitingTests, checkTests}
 use Rattle.demands.specs.Figures.{done, _and_, figures, Figures}
 
 pub figures-hold : Figures

@@ -2,8 +2,7 @@
 use mathlib.Core.Path.{refl}
 use Rattle.offset.specs.Offset.{offsetTests}
 use Rattle.client.specs.Ask.{askTests}
-use Rattle.client.specs.Arrival.{waitingTests}
-use Rattle.reply_checks.specs.Checks.{checkTests}
+use Rattle.reply_checks.specs.Checks.{waitingTests, checkTests}
 use Rattle.client.specs.GiveUp.{giveUpTests}
 use Rattle.server.specs.Server as server
 use Rattle.ledger.specs.Ledger.{entryTests, tickTests}

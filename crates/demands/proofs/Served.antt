@@ -20,8 +20,9 @@ use Rattle.packet.specs.RoundTrips as round-trips
 use Rattle.packet.proofs.Packet.{length-octetsOf}
 use Rattle.packet.proofs.RoundTrips.{fieldsOf-octetsOf}
 use Rattle.client.specs.declared.Client.{Client}
-use Rattle.client.specs.Ask.{request, waitingFor}
-use Rattle.client.proofs.Request.{requestFields, request-octets}
+use Rattle.request.specs.Request.{request, requestFields}
+use Rattle.client.specs.Ask.{waitingFor}
+use Rattle.request.proofs.Request.{request-octets}
 use Rattle.server.specs.declared.Settings.{Settings}
 use Rattle.server.specs.declared.ReplyAnswer.{ReplyAnswer}
 use Rattle.server.specs.Server.{replyWith, replyFields}

@@ -8,7 +8,8 @@ use lib.ListN.{length, drop}
 use Rattle.refusals.specs.Numbers.{record-not-legal, buffer-too-short, version-unsupported, own-clock-zero, client-stopped, already-waiting, asked-too-soon}
 use Rattle.client.specs.declared.Client.{Client}
 use Rattle.client.specs.declared.Phase.the-variants.{Waiting, Stopped}
-use Rattle.client.specs.Ask.{request, waitingFor}
+use Rattle.request.specs.Request.{request}
+use Rattle.client.specs.Ask.{waitingFor}
 use Rattle.client.specs.Calls as calls
 use Rattle.demands.specs.Form.{Rules, _unless_then_, does}
 use Rattle.demands.specs.Common.{notAvailable}

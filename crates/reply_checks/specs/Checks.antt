@@ -1,14 +1,16 @@
 -- The checks of a reply to the request with this transmit timestamp and version (document 01, "The client").
 use Prim.Native.Nat.{ℕ}
-use mathlib.Core.Bool.{not}
+use mathlib.Core.Bool.{Bool, not}
+use mathlib.Core.List.{List}
 use lib.Dec.{eqb}
 use Rattle.ordered_tests.specs.Tests.{Tests, _if_else_, _when_else_, answer, carry}
-use Rattle.refusals.specs.Numbers.{originate-mismatch, reply-mode-wrong, version-mismatch}
+use Rattle.refusals.specs.Numbers.{packet-length-wrong, not-waiting, originate-mismatch, reply-mode-wrong, version-mismatch}
 use Rattle.timestamp.specs.declared.Timestamp.{Timestamp}
 use Rattle.timestamp.specs.Timestamp.{_since_}
 use Rattle.offset.specs.declared.OffsetAnswer.{OffsetAnswer}
 use Rattle.offset.specs.Offset.{offsetTests}
 use Rattle.packet.specs.declared.Fields.{Fields}
+use Rattle.packet.specs.Packet.{wrongLength, fieldsOf}
 use Rattle.kiss.specs.Kiss.{rowOf}
 use Rattle.sanity.specs.Sanity.{headerTests, rootTests}
 use Rattle.reply_checks.specs.declared.ArrivalAnswer.{ArrivalAnswer}
@@ -37,3 +39,17 @@ checkTests transmit version f t4 =
 
 unfoldable pub checked : Timestamp → ℕ → Fields → Timestamp → ArrivalAnswer
 checked transmit version f t4 = answer Refused (checkTests transmit version f t4)
+
+-- a client that waits checks the reply
+unfoldable pub waitingTests : Bool → Timestamp → ℕ → Fields → Timestamp → Tests ArrivalAnswer
+waitingTests waiting transmit version f t4 =
+    not-waiting if not waiting else
+    checkTests transmit version f t4
+
+abbrev pub packetTests : Bool → Timestamp → ℕ → List ℕ → Timestamp → Tests ArrivalAnswer
+packetTests waiting transmit version packet t4 =
+    packet-length-wrong if wrongLength packet else
+    waitingTests waiting transmit version (fieldsOf packet) t4
+
+unfoldable pub checkedPacket : Bool → Timestamp → ℕ → List ℕ → Timestamp → ArrivalAnswer
+checkedPacket waiting transmit version packet t4 = answer Refused (packetTests waiting transmit version packet t4)

@@ -1,9 +1,11 @@
 // The checks of a server's reply to the request with this transmit timestamp and version (RFC 4330, section 5).
 ghost use mathlib.Core.Path.{_≡_};
-ghost use Rattle.ordered_tests.specs.Tests.{number, pass};
-ghost use Rattle.reply_checks.specs.Checks.{matchTests, fromOffset, checked};
+ghost use Rattle.ordered_tests.specs.Tests.{number, answer, pass};
+ghost use Rattle.reply_checks.specs.declared.ArrivalAnswer.{ArrivalAnswer};
+ghost use Rattle.reply_checks.specs.Checks.{matchTests, fromOffset, checked, waitingTests, checkedPacket};
 use offset::OffsetAnswer;
 use packet::Fields;
+use packet::FieldsAnswer;
 use timestamp::Timestamp;
 
 // What an arrival answers. `code` is the reference identifier.
@@ -47,7 +49,7 @@ fn from_offset(answer: OffsetAnswer) -> ArrivalAnswer
 }
 
 // A reply of stratum 0 is a kiss-o'-death packet (RFC 4330, section 8).
-pub fn check(transmit: Timestamp, version: u8, f: Fields, t4: Timestamp) -> ArrivalAnswer
+fn check(transmit: Timestamp, version: u8, f: Fields, t4: Timestamp) -> ArrivalAnswer
     ensures { λ r. ⌜ r ≡ checked transmit version f t4 ⌝ }
 {
     let n = first_refusal(transmit, version, f);
@@ -64,4 +66,35 @@ pub fn check(transmit: Timestamp, version: u8, f: Fields, t4: Timestamp) -> Arri
         return ArrivalAnswer::Refused(n);
     }
     from_offset(offset::measure(transmit, f.receive, f.transmit, t4))
+}
+
+// The checks of a packet that came in at the clock reading T4; `waiting` says whether there is a request.
+pub fn check_packet(
+    waiting: bool,
+    transmit: Timestamp,
+    version: u8,
+    packet: &[u8],
+    t4: Timestamp,
+) -> ArrivalAnswer
+    ensures { λ r. ⌜ r ≡ checkedPacket waiting transmit version (now (packet .entry)) t4 ⌝ }
+{
+    match packet::read(packet) {
+        FieldsAnswer::Refused(n) => ArrivalAnswer::Refused(n),
+        FieldsAnswer::Fields(f) => check_waiting(waiting, transmit, version, f, t4),
+    }
+}
+
+fn check_waiting(
+    waiting: bool,
+    transmit: Timestamp,
+    version: u8,
+    f: Fields,
+    t4: Timestamp,
+) -> ArrivalAnswer
+    ensures { λ r. ⌜ r ≡ answer ArrivalAnswer.Refused (waitingTests waiting transmit version f t4) ⌝ }
+{
+    if !waiting {
+        return ArrivalAnswer::Refused(refusals::NOT_WAITING);
+    }
+    check(transmit, version, f, t4)
 }

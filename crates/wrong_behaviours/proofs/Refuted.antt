@@ -30,10 +30,10 @@ use Rattle.poll.specs.Poll.{tooSoon}
 use Rattle.client.specs.declared.Client.{Client}
 use Rattle.client.specs.Record.{fresh, isWaiting, illegal}
 use Rattle.client.specs.Ask.{askTests, afterAsk, afterAskBuffer}
-use Rattle.client.specs.Ask as requests
+use Rattle.request.specs.Request as requests
 use Rattle.client.specs.Arrival.{arrived}
 use Rattle.client.specs.Arrival as arrivals
-use Rattle.reply_checks.specs.Checks.{checkTests}
+use Rattle.reply_checks.specs.Checks.{waitingTests, checkTests}
 use Rattle.client.specs.GiveUp.{gaveUp, giveUpTests}
 use Rattle.client.specs.Calls.{Call, ask, arrival, giveUp, Result, refused, done, accepted, kiss, Outcome}
 use Rattle.server.specs.declared.ReplyAnswer.{ReplyAnswer}
@@ -141,15 +141,15 @@ number o = clients.client .shown o .number
 
 module _ (f : Implementation clients.client) where
   back : T (tells-other (negsuc 1003) 1 (pos 7) (f (replied slowBack))) → Fails2 client f
-  unfolding arrived arrivals.arrivalAnswer arrivals.waitingTests checkTests offsetTests _since_ difference signed _modulo_ floorHalf halfOf offset.outOfRange fieldsOf octetsOf octets requests.request illegal askTests afterAsk afterAskBuffer server.replied server.repliedBuffer server.replyTests requestTests server.outOfRange replyFields reading tooSoon gaveUp giveUpTests bits
+  unfolding arrived arrivals.arrivalAnswer waitingTests checkTests offsetTests _since_ difference signed _modulo_ floorHalf halfOf offset.outOfRange fieldsOf octetsOf octets requests.request illegal askTests afterAsk afterAskBuffer server.replied server.repliedBuffer server.replyTests requestTests server.outOfRange replyFields reading tooSoon gaveUp giveUpTests bits
   back seen = differs (each client .answers) (replied slowBack) (tells-other (negsuc 1003) 1 (pos 7)) seen tt
 
   odd : T (tells-other (negsuc 1002) 0 (pos 8) (f (replied bothOdd))) → Fails2 client f
-  unfolding arrived arrivals.arrivalAnswer arrivals.waitingTests checkTests offsetTests _since_ difference signed _modulo_ floorHalf halfOf offset.outOfRange fieldsOf octetsOf octets requests.request illegal askTests afterAsk afterAskBuffer server.replied server.repliedBuffer server.replyTests requestTests server.outOfRange replyFields reading tooSoon gaveUp giveUpTests bits
+  unfolding arrived arrivals.arrivalAnswer waitingTests checkTests offsetTests _since_ difference signed _modulo_ floorHalf halfOf offset.outOfRange fieldsOf octetsOf octets requests.request illegal askTests afterAsk afterAskBuffer server.replied server.repliedBuffer server.replyTests requestTests server.outOfRange replyFields reading tooSoon gaveUp giveUpTests bits
   odd seen = differs (each client .answers) (replied bothOdd) (tells-other (negsuc 1002) 0 (pos 8)) seen tt
 
   over-2036 : T (tells-other (pos 43486543872) 0 (pos 3221225472) (f (replied replay))) → Fails2 client f
-  unfolding arrived arrivals.arrivalAnswer arrivals.waitingTests checkTests offsetTests _since_ difference signed _modulo_ floorHalf halfOf offset.outOfRange fieldsOf octetsOf octets requests.request illegal askTests afterAsk afterAskBuffer server.replied server.repliedBuffer server.replyTests requestTests server.outOfRange replyFields reading tooSoon gaveUp giveUpTests bits
+  unfolding arrived arrivals.arrivalAnswer waitingTests checkTests offsetTests _since_ difference signed _modulo_ floorHalf halfOf offset.outOfRange fieldsOf octetsOf octets requests.request illegal askTests afterAsk afterAskBuffer server.replied server.repliedBuffer server.replyTests requestTests server.outOfRange replyFields reading tooSoon gaveUp giveUpTests bits
   over-2036 seen = differs (each client .answers) (replied replay) (tells-other (pos 43486543872) 0 (pos 3221225472)) seen tt
 
   -- a reply with root fields out of range, of which this number is told, and not by ours
@@ -165,7 +165,7 @@ abbrev accepted-ask : acceptance ≢ refusal
 accepted-ask = acceptance-shown .0
 
 pub refuted : Refuted
-unfolding arrived arrivals.arrivalAnswer arrivals.waitingTests checkTests offsetTests _since_ difference signed _modulo_ floorHalf halfOf offset.outOfRange fieldsOf octetsOf octets requests.request illegal askTests afterAsk afterAskBuffer server.replied server.repliedBuffer server.replyTests requestTests server.outOfRange replyFields reading tooSoon gaveUp giveUpTests bits
+unfolding arrived arrivals.arrivalAnswer waitingTests checkTests offsetTests _since_ difference signed _modulo_ floorHalf halfOf offset.outOfRange fieldsOf octetsOf octets requests.request illegal askTests afterAsk afterAskBuffer server.replied server.repliedBuffer server.replyTests requestTests server.outOfRange replyFields reading tooSoon gaveUp giveUpTests bits
 refuted =
     let at-back = orderly slowBack tt in
     let at-out = orderly slowOut tt in

@@ -21,7 +21,7 @@ use Rattle.reply_checks.specs.declared.ArrivalAnswer.{ArrivalAnswer}
 use Rattle.reply_checks.specs.Checks.{matchTests, fromOffset}
 use Rattle.kiss.specs.Kiss.{rowOf}
 use Rattle.client.specs.Record.{isWaiting, illegal, withoutRequest}
-use Rattle.client.specs.Ask.{request}
+use Rattle.request.specs.Request.{request}
 use Rattle.client.specs.Arrival.{arrivalTests, after}
 use Rattle.client.specs.Calls.{Arrival, Call, ask, arrival, giveUp, lent, Result, refused, done, accepted, kiss, Outcome, saidArrival, step}
 use Rattle.demands.specs.Form.{Implementation}
