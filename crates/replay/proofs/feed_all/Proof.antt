@@ -6,7 +6,7 @@ use denote.Ref.{now}
 use lib.ListN.{length, take, drop}
 use lib.Seq.{length-take-le}
 use borrow.Author.Needs.{needs}
-use Rattle.replay.proofs.Calls.{taken-within, written-within, takes}
+use Rattle.replay.proofs.Calls.{consumed-within, written-within, takes}
 use Rattle.replay.proofs.feed_all.Statement.{statement}
 use Rattle.replay.proofs.feed_all.Tie as tie
 
@@ -35,7 +35,7 @@ add-at c =
     let f = c .before .before .before .before .before .before in
     let l = f .before .before .before .before in
     let s = l .before .before .before .args in
-    let t = taken-within (l .loop .replay) (now (s .input)) (l .loop .at) (length (l .loop .output)) (f .feed .result) (search needs) (f .feed .ensures .0) in
+    let t = consumed-within (l .loop .replay) (now (s .input)) (l .loop .at) (length (l .loop .output)) (f .feed .result) (search needs) (f .feed .ensures .0) in
     search needs
 
 loop-less : tie.Need-loop-less Inv-loop μ-loop
@@ -51,7 +51,7 @@ loop-again c =
     let f = c .before .before .before .before .before .before in
     let l = f .before .before .before .before in
     let s = l .before .before .before .args in
-    (taken-within (l .loop .replay) (now (s .input)) (l .loop .at) (length (l .loop .output)) (f .feed .result) (search needs) (f .feed .ensures .0), search needs)
+    (consumed-within (l .loop .replay) (now (s .input)) (l .loop .at) (length (l .loop .output)) (f .feed .result) (search needs) (f .feed .ensures .0), search needs)
 
 pub feed-all-spec : {M : Type 1} → statement M
 feed-all-spec =
