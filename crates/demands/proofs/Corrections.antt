@@ -46,9 +46,9 @@ module _ (i : Entry) (legal : natAbs (i .ledger .debt) < 2 ^ 50) where
   refusals n (inr (_, inr (_, inl (f, e)))) = inr (cc)
   refusals n (inr (_, inr (_, inr (_, e)))) = let z : _≡_ {A = ℕ} 0 1 = cc in absurd (omega arith)
 
-  refused-by : (sum : ℤ) (n : ℕ) → (n ≡ entry-too-large) ⊎ (n ≡ debt-too-large) → OwedOrRefused i sum (form entry .refusal i n)
-  refused-by sum n (inl e) = inr (inl (ap (form entry .refusal i) e))
-  refused-by sum n (inr e) = inr (inr (ap (form entry .refusal i) e))
+  refused-by : (sum : ℤ) (n : ℕ) → (n ≡ entry-too-large) ⊎ (n ≡ debt-too-large) → OwedOrRefused i sum (form entry .refusing i n)
+  refused-by sum n (inl e) = inr (inl (ap (form entry .refusing i) e))
+  refused-by sum n (inr e) = inr (inr (ap (form entry .refusing i) e))
 
   enters : (sum : ℤ) → owed i ≡ sum → OwedOrRefused i sum (ours .does entry i)
   enters sum s = either entry-meets i (OwedOrRefused i sum) (λ n l p. refused-by sum n (refusals n p)) (λ o (_, (_, (_, e))). inl (sym e ∙ ap (owing (i .ledger)) s))

@@ -129,7 +129,7 @@ kiss-shown = (λ e. let z : _≡_ {A = ℕ} 0 1 = cc in omega arith, refl)
 
 pub record Proper (F : Form) : Type 0 where
   pub numbers : (i : F .Input) → T (numbered listed (F .rules i))
-  pub refusals : (i : F .Input) (n : ℕ) → T (listed n) → ShownAs n (F .shown (F .refusal i n))
+  pub refusals : (i : F .Input) (n : ℕ) → T (listed n) → ShownAs n (F .shown (F .refusing i n))
   pub others : (i : F .Input) → Each (Accepted F) (F .rules i)
 
 -- both demands of a call
@@ -139,7 +139,7 @@ pub record Meets (F : Form) (f : Implementation F) : Type 0 where
 
 module _ {F : Form} {f : Implementation F} (m : Meets F f) where
   -- what is true of every refusal by a listed number, and of every outcome that the rules may give, is true of what the call does
-  pub either : (i : F .Input) (P : F .Outcome → Type 0) → ((n : ℕ) → T (listed n) → Gives (F .rules i) (refused n) → P (F .refusal i n))
+  pub either : (i : F .Input) (P : F .Outcome → Type 0) → ((n : ℕ) → T (listed n) → Gives (F .rules i) (refused n) → P (F .refusing i n))
       → ((o : F .Outcome) → Passes (F .rules i) o → P o) → P (f i)
   either i P refusals outcomes = subst P (sym (m .answers .done i)) (go (m .answers .given i) (m .answers .by-rules i))
     where
@@ -156,8 +156,8 @@ module _ {F : Form} {f : Implementation F} (m : Meets F f) where
     listed = λ i. either i (λ o. F .shown o .kind ≡ refusal → T (listed (F .shown o .number)))
         (λ n l p e. subst (λ x. T (listed x)) (sym (m .proper .refusals i n l .number)) l)
         (λ o p e. absurd (accepted i o p .0 e));
-    unchanged = λ i. either i (λ o. F .shown o .kind ≡ refusal → o ≡ F .refusal i (F .shown o .number))
-        (λ n l p e. ap (F .refusal i) (sym (m .proper .refusals i n l .number)))
+    unchanged = λ i. either i (λ o. F .shown o .kind ≡ refusal → o ≡ F .refusing i (F .shown o .number))
+        (λ n l p e. ap (F .refusing i) (sym (m .proper .refusals i n l .number)))
         (λ o p e. absurd (accepted i o p .0 e));
     no-value = λ i. either i (λ o. F .shown o .kind ≡ refusal → F .shown o .values ≡ replicate (length (F .shown o .values)) (pos 0))
         (λ n l p e. m .proper .refusals i n l .values)
@@ -203,12 +203,12 @@ reflected (end e) = ap answered e
 module _ (F : Form) (f : Implementation F) {A : F .Input → Type 0} (table : (i : F .Input) → Tests (A i)) (make : (i : F .Input) → Given (A i) → F .Outcome) where
   pub record Table : Type 1 where
     pub is : (i : F .Input) → f i ≡ make i (tests.given (table i))
-    pub refusal : (i : F .Input) (n : ℕ) → make i (refused n) ≡ F .refusal i n
+    pub refusing : (i : F .Input) (n : ℕ) → make i (refused n) ≡ F .refusing i n
     pub reflects : (i : F .Input) → Reflects (λ a. make i (answered a)) (table i) (F .rules i)
 
   module _ (t : Table) where
     made : (i : F .Input) (g : Given (A i)) → make i g ≡ outcome F i (mapGiven (λ a. make i (answered a)) g)
-    made i (refused n) = t .refusal i n
+    made i (refused n) = t .refusing i n
     made i (answered a) = refl
 
     pub table-answers : Answers F f
@@ -223,8 +223,8 @@ module _ (F : Form) (f : Implementation F) {A : F .Input → Type 0} (table : (i
 module _ {F : Form} {f : Implementation F} (m : Meets F f) (W : Wrapper F) where
   pub record Wraps : Type 0 where
     pub numbers : (i : W .Input) (n : ℕ) → W .read i ≡ refused n → T (listed n)
-    pub refusal : (i : W .Input) (x : F .Input) (n : ℕ) → W .read i ≡ answered x → W .show i (F .refusal x n) ≡ W .refusal i n
-    pub refusals : (i : W .Input) (n : ℕ) → T (listed n) → ShownAs n (W .shown (W .refusal i n))
+    pub refusing : (i : W .Input) (x : F .Input) (n : ℕ) → W .read i ≡ answered x → W .show i (F .refusing x n) ≡ W .refusing i n
+    pub refusals : (i : W .Input) (n : ℕ) → T (listed n) → ShownAs n (W .shown (W .refusing i n))
     pub others : (i : W .Input) (x : F .Input) → W .read i ≡ answered x → Each (λ o. Accepted (wrapped F W) (W .show i o)) (F .rules x)
 
   mapped : {A B : Type 0} (h : A → B) (r : Rules A) (g : Given A) → Gives r g → Gives (mapRules h r) (mapGiven h g)
@@ -259,7 +259,7 @@ module _ {F : Form} {f : Implementation F} (m : Meets F f) (W : Wrapper F) where
     by-rules-at i (answered x) = mapped (W .show i) (F .rules x) (m .answers .given x) (m .answers .by-rules x)
 
     shown-at : (i : W .Input) (x : F .Input) → W .read i ≡ answered x → (g : Given (F .Outcome)) → W .show i (outcome F x g) ≡ outcome (wrapped F W) i (mapGiven (W .show i) g)
-    shown-at i x e (refused n) = w .refusal i x n e
+    shown-at i x e (refused n) = w .refusing i x n e
     shown-at i x e (answered o) = refl
 
     done-at : (i : W .Input) (g : Given (F .Input)) → W .read i ≡ g → over F W f i g ≡ outcome (wrapped F W) i (given-at i g)

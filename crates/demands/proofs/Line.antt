@@ -61,7 +61,7 @@ is-ours c l malformed = refl
 pub line-meets : Meets line ours
 line-meets = same-program (λ (c, l). is-ours c l (parsed (decode l))) (wrapped-meets client-meets carrying (record {
   numbers = λ (c, l). read-listed c (parsed (decode l));
-  refusal = λ (c, l) (d, y) n e. λ i. record { client = own c d (parsed (decode l)) y e i; octets = n ∷ [] };
+  refusing = λ (c, l) (d, y) n e. λ i. record { client = own c d (parsed (decode l)) y e i; octets = n ∷ [] };
   refusals = λ i. number-shown;
   others = λ (c, l) (d, x) e. shows-accepted d l x;
 }))

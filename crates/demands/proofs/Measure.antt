@@ -55,7 +55,7 @@ measure-meets = record {
   proper = record { numbers = λ x. tt; refusals = λ x n l. by 3 n; others = λ x. acceptance-shown };
   answers = table-answers measure ours table (λ x. answerOf OffsetAnswer.Refused) (record {
     is = λ x. refl;
-    refusal = λ x n. refl;
+    refusing = λ x n. refl;
     reflects = λ x. four-rows x (end refl);
   });
 }

@@ -40,7 +40,7 @@ reply-meets = record {
   proper = record { numbers = λ x. tt; refusals = λ x n l. by 0 n; others = λ x. acceptance-shown };
   answers = table-answers reply ours table make (record {
     is = λ x. refl;
-    refusal = λ x n. refl;
+    refusing = λ x n. refl;
     reflects = λ x.
         let synchronised = is-true (x .settings .synchronised) in
         at-least (length (x .buffer)) 48

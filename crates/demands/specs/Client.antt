@@ -36,7 +36,7 @@ client = record {
   Input = Client × Call;
   Outcome = Outcome;
   shown = λ o. shown (o .result);
-  refusal = λ (c, x) n. record { result = calls.refused n; next = c; octets = lent x };
+  refusing = λ (c, x) n. record { result = calls.refused n; next = c; octets = lent x };
   rules = λ (c, x). callRules c x;
 }
 

@@ -20,7 +20,7 @@ abbrev pub owing : Ledger → ℤ → Entered
 owing l sum = record { answer = EntryAnswer.Taken; ledger = record { debt = l .debt +ℤ sum } }
 
 abbrev pub OwedOrRefused : Entry → ℤ → Entered → Type 0
-OwedOrRefused i sum o = (o ≡ owing (i .ledger) sum) ⊎ ((o ≡ form entry .refusal i entry-too-large) ⊎ (o ≡ form entry .refusal i debt-too-large))
+OwedOrRefused i sum o = (o ≡ owing (i .ledger) sum) ⊎ ((o ≡ form entry .refusing i entry-too-large) ⊎ (o ≡ form entry .refusing i debt-too-large))
 
 abbrev pub Corrections : Type 0
 Corrections =

@@ -24,7 +24,7 @@ date = record {
   Input = Timestamp;
   Outcome = DateAnswer;
   shown = shown;
-  refusal = λ t. DateAnswer.Refused;
+  refusing = λ t. DateAnswer.Refused;
   rules = λ t.
       timestamp-zero unless t ≢ notAvailable then
       does (DateAnswer.Date (dateAt (secondsAt t) (fractionOf t)));

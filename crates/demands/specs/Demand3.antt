@@ -106,7 +106,7 @@ module _ (b : Behaviour) where
   pub record IsRefused (c : Client) (x : Call) : Type 0 where
     pub by : ℕ
     pub listed : T (numbers.listed by)
-    pub is : b .does client (c, x) ≡ form client .refusal (c, x) by
+    pub is : b .does client (c, x) ≡ form client .refusing (c, x) by
 
   -- the record after the calls, of which each gets the record that the call before handed back
   abbrev pub after : Client → List Call → Client

@@ -27,7 +27,7 @@ entry = record {
   Input = Entry;
   Outcome = Entered;
   shown = λ o. shown (o .answer);
-  refusal = λ x n. record { answer = EntryAnswer.Refused n; ledger = x .ledger };
+  refusing = λ x n. record { answer = EntryAnswer.Refused n; ledger = x .ledger };
   rules = λ x.
       record-not-legal unless natAbs (x .ledger .debt) < 2 ^ 50 then
       entry-too-large unless (x .half ≤ 1) × (natAbs (owed x) < 2 ^ 41) then

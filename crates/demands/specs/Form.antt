@@ -53,7 +53,7 @@ pub record Form : Type 1 where
   pub Input : Type 0  -- what the call is given: values, a record, and the octets that it is lent
   pub Outcome : Type 0  -- what it answers, and what the record and those octets are then
   pub shown : Outcome → Shown
-  pub refusal : Input → ℕ → Outcome  -- the refusal by this number, which changes nothing
+  pub refusing : Input → ℕ → Outcome  -- the refusal by this number, which changes nothing
   pub rules : Input → Rules Outcome
 
 module _ (F : Form) where
@@ -63,13 +63,13 @@ module _ (F : Form) where
 
   -- the outcome of what the rules give
   abbrev pub outcome : F .Input → Given (F .Outcome) → F .Outcome
-  outcome i (refused n) = F .refusal i n
+  outcome i (refused n) = F .refusing i n
   outcome i (answered o) = o
 
   -- Demand 1 of a call: what is of the kind refusal carries a number of the table, changes nothing and tells no value; anything else has the number 0.
   pub record Refuses (f : Implementation) : Type 0 where
     pub listed : (i : F .Input) → F .shown (f i) .kind ≡ refusal → T (numbers.listed (F .shown (f i) .number))
-    pub unchanged : (i : F .Input) → F .shown (f i) .kind ≡ refusal → f i ≡ F .refusal i (F .shown (f i) .number)
+    pub unchanged : (i : F .Input) → F .shown (f i) .kind ≡ refusal → f i ≡ F .refusing i (F .shown (f i) .number)
     pub no-value : (i : F .Input) → F .shown (f i) .kind ≡ refusal → F .shown (f i) .values ≡ replicate (length (F .shown (f i) .values)) (pos 0)
     pub number-0 : (i : F .Input) → F .shown (f i) .kind ≢ refusal → F .shown (f i) .number ≡ 0
 

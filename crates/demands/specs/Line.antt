@@ -31,7 +31,7 @@ carrying = record {
   Input = Client × List ℕ;
   Outcome = LineAnswer;
   shown = λ o. shown (o .octets);
-  refusal = λ (c, line) n. record { client = c; octets = n ∷ [] };
+  refusing = λ (c, line) n. record { client = c; octets = n ∷ [] };
   read = λ (c, line). carried c (parsed (decode line));
   show = λ i o. record { client = o .next; octets = answerOctets (o .result) (o .octets) };
 }

@@ -57,7 +57,7 @@ measure = record {
   Input = Four;
   Outcome = OffsetAnswer;
   shown = shown;
-  refusal = λ x. OffsetAnswer.Refused;
+  refusing = λ x. OffsetAnswer.Refused;
   rules = λ x. fourRules x (does (OffsetAnswer.Measured (offset x) (half x) (d x)));
 }
 

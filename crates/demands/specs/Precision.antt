@@ -16,7 +16,7 @@ precision = record {
   Input = ℕ;
   Outcome = PrecisionAnswer;
   shown = shown;
-  refusal = λ tick. PrecisionAnswer.Refused;
+  refusing = λ tick. PrecisionAnswer.Refused;
   rules = λ tick.
       tick-out-of-range unless (1 ≤ tick) × (tick ≤ 2 ^ 32) then
       does (PrecisionAnswer.Precision (pos (least tick 32) -ℤ pos 32));

@@ -23,7 +23,7 @@ read = record {
   Input = List ℕ;
   Outcome = FieldsAnswer;
   shown = shown;
-  refusal = λ p. FieldsAnswer.Refused;
+  refusing = λ p. FieldsAnswer.Refused;
   rules = λ p.
       packet-length-wrong unless IsPacket p then
       does (FieldsAnswer.Fields (fieldsOf p));

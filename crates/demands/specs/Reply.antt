@@ -60,7 +60,7 @@ reply = record {
   Input = Request;
   Outcome = Written ReplyAnswer;
   shown = λ o. shown (o .answer);
-  refusal = λ x n. record { answer = ReplyAnswer.Refused n; octets = x .buffer };
+  refusing = λ x n. record { answer = ReplyAnswer.Refused n; octets = x .buffer };
   rules = replyRules;
 }
 

@@ -25,7 +25,7 @@ tick = record {
   Input = Tick;
   Outcome = Ticked;
   shown = λ o. shown (o .answer);
-  refusal = λ x n. record { answer = TickAnswer.Refused n; ledger = x .ledger };
+  refusing = λ x n. record { answer = TickAnswer.Refused n; ledger = x .ledger };
   rules = λ x.
       record-not-legal unless natAbs (x .ledger .debt) < 2 ^ 50 then
       limit-out-of-range unless (1 ≤ x .limit) × (x .limit ≤ 2 ^ 32) then

@@ -21,7 +21,7 @@ timestamp = record {
   Input = Date;
   Outcome = TimestampAnswer;
   shown = shown;
-  refusal = λ d. TimestampAnswer.Refused;
+  refusing = λ d. TimestampAnswer.Refused;
   rules = λ d.
       no-such-date unless exists d ≡ true then
       outside-window unless inWindow (secondsTo d) ≡ true then

@@ -7,7 +7,7 @@ pub record Wrapper (F : Form) : Type 1 where
   pub Input : Type 0
   pub Outcome : Type 0
   pub shown : Outcome → Shown
-  pub refusal : Input → ℕ → Outcome
+  pub refusing : Input → ℕ → Outcome
   pub read : Input → Given (F .Input)
   pub show : Input → F .Outcome → Outcome
 
@@ -24,11 +24,11 @@ module _ (F : Form) (W : Wrapper F) where
   rulesOf i (answered x) = mapRules (W .show i) (F .rules x)
 
   abbrev pub wrapped : Form
-  wrapped = record { Input = W .Input; Outcome = W .Outcome; shown = W .shown; refusal = W .refusal; rules = λ i. rulesOf i (W .read i) }
+  wrapped = record { Input = W .Input; Outcome = W .Outcome; shown = W .shown; refusing = W .refusing; rules = λ i. rulesOf i (W .read i) }
 
   -- over some program for the inner call
   abbrev pub over : Implementation F → W .Input → Given (F .Input) → W .Outcome
-  over f i (refused n) = W .refusal i n
+  over f i (refused n) = W .refusing i n
   over f i (answered x) = W .show i (f x)
 
   abbrev pub through : Implementation F → Implementation wrapped

@@ -22,7 +22,7 @@ write = record {
   Input = Fill;
   Outcome = Written WriteAnswer;
   shown = λ o. shown (o .answer);
-  refusal = λ x n. record { answer = WriteAnswer.Refused n; octets = x .buffer };
+  refusing = λ x n. record { answer = WriteAnswer.Refused n; octets = x .buffer };
   rules = λ x.
       buffer-too-short unless 48 ≤ length (x .buffer) then
       field-too-large unless (x .fields .leap ≤ 3) × (x .fields .version ≤ 7) × (x .fields .mode ≤ 7) then

@@ -22,10 +22,14 @@ octetsOf (text._∷_ c s) = char.code c ∷ octetsOf s
 abbrev pub names : List String
 names = "ACST" ∷ "AUTH" ∷ "AUTO" ∷ "BCST" ∷ "CRYP" ∷ "DENY" ∷ "DROP" ∷ "RSTR" ∷ "INIT" ∷ "MCST" ∷ "NKEY" ∷ "RATE" ∷ "RMOT" ∷ "STEP" ∷ []
 
--- the row of a code in a list of names whose first has the row k; 0 where the code is none of them
-abbrev pub rowIn : ℕ → List String → ℕ → ℕ
+abbrev pub codes : List String → List ℕ
+codes [] = []
+codes (name ∷ rest) = codeOf (octetsOf name) ∷ codes rest
+
+-- the row of a code in a list of codes whose first has the row k; 0 where the code is none of them
+abbrev pub rowIn : ℕ → List ℕ → ℕ → ℕ
 rowIn k [] code = 0
-rowIn k (name ∷ rest) code = cond (eqb code (codeOf (octetsOf name))) k (rowIn (suc k) rest code)
+rowIn k (first ∷ rest) code = cond (eqb code first) k (rowIn (suc k) rest code)
 
 unfoldable pub rowOf : ℕ → ℕ
-rowOf code = rowIn 1 names code
+rowOf code = rowIn 1 (codes names) code

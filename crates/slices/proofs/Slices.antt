@@ -1,23 +1,44 @@
 -- Laws of numbers in a list of octets, over the count of octets. Assumes nothing.
 use Prim.Native.Nat.{ℕ, _+_, _/_, _%_, _^_, _≤_}
-use mathlib.Core.Path.{_≡_}
+use mathlib.Core.Path.{_≡_, sym, _∙_}
+use mathlib.Core.Bool.{Bool, true, false}
 use mathlib.Core.List.{List, reverse, reverse-append}
 use borrow.Author.Tests.{le-leb}
+use lib.Dec.{leb}
 use lib.ListN.{length, length-reverse}
 use lib.Seq.{sets}
 use Rattle.arithmetic.specs.Octets.{bigEndian, octets, part}
 use Rattle.arithmetic.proofs.Octets.{length-octets, octets-add, octets-mod, sets-append}
 use Rattle.slices.specs.Slices.{readAt, writeAt}
 
--- where there is room
-module _ (n : ℕ) (p : List ℕ) (at : ℕ) (room : at + n ≤ length p) where
-  pub number-room : readAt n p at ≡ bigEndian (part at n p)
-  unfolding readAt
-  number-room = rw (le-leb (at + n) (length p) room)
+module _ (n : ℕ) (p : List ℕ) (at : ℕ) where
+  -- what the test whether there is room tells, by its answer r
+  module _ {r : Bool} (test : r ≡ leb (at + n) (length p)) where
+    pub read-number : r ≡ true → {x : ℕ} → x ≡ bigEndian (part at n p) → x ≡ readAt n p at
+    unfolding readAt
+    read-number e f = rw (sym test ∙ e) f
 
-  pub put-room : (x : ℕ) → writeAt n p at x ≡ sets p at (octets n x)
-  unfolding writeAt
-  put-room x = rw (le-leb (at + n) (length p) room)
+    pub read-zero : r ≡ false → 0 ≡ readAt n p at
+    unfolding readAt
+    read-zero e = rw (sym test ∙ e)
+
+    pub written : r ≡ true → (x : ℕ) {b : List ℕ} → b ≡ sets p at (octets n x) → b ≡ writeAt n p at x
+    unfolding writeAt
+    written e x f = rw (sym test ∙ e) f
+
+    pub not-written : r ≡ false → (x : ℕ) → p ≡ writeAt n p at x
+    unfolding writeAt
+    not-written e x = rw (sym test ∙ e)
+
+  -- where there is room
+  module _ (room : at + n ≤ length p) where
+    pub number-room : readAt n p at ≡ bigEndian (part at n p)
+    unfolding readAt
+    number-room = rw (le-leb (at + n) (length p) room)
+
+    pub put-room : (x : ℕ) → writeAt n p at x ≡ sets p at (octets n x)
+    unfolding writeAt
+    put-room x = rw (le-leb (at + n) (length p) room)
 
 -- the m + n octets of y in reverse order are stored by the lower n and then the higher m
 pub sets-halves : (m n : ℕ) (l : List ℕ) (at y : ℕ)
