@@ -25,18 +25,18 @@ use Rattle.demands.proofs.Unique.{unique}
 
 module _ (c : Client) (x : Arrival) (offset : ℤ) (half : ℕ) (delay : ℤ) where
   -- an accepted arrival tells the offset and the half of its four timestamps
-  abbrev Told : Outcome → Type 0
-  Told o = o .result ≡ calls.accepted offset half delay → (measures.offset (four c x) ≡ offset) × (measures.half (four c x) ≡ half)
+  abbrev ReportsFour : Outcome → Type 0
+  ReportsFour o = o .result ≡ calls.accepted offset half delay → (measures.offset (four c x) ≡ offset) × (measures.half (four c x) ≡ half)
 
-  tells : Told (ours .does client (c, arrival x))
-  tells =
-      either client-meets (c, arrival x) Told
+  reports : ReportsFour (ours .does client (c, arrival x))
+  reports =
+      either client-meets (c, arrival x) ReportsFour
       (λ n l p e. let z : _≡_ {A = ℕ} 0 1 = cc in absurd (omega arith))
-      (λ o p. outcome-in Told (arrivalRules c x) o ((λ e. let z : _≡_ {A = ℕ} 0 1 = cc in absurd (omega arith)), (λ e. (cc, cc))) p)
+      (λ o p. outcome-in ReportsFour (arrivalRules c x) o ((λ e. let z : _≡_ {A = ℕ} 0 1 = cc in absurd (omega arith)), (λ e. (cc, cc))) p)
 
   -- twice the offset plus the half is P + Q
   sum-is : ours .does client (c, arrival x) .result ≡ calls.accepted offset half delay → halfUnits offset half ≡ P (four c x) +ℤ Q (four c x)
-  sum-is e = let (o, h) = tells e in sym (λ i. halfUnits (o i) (h i)) ∙ halving (P (four c x) +ℤ Q (four c x)) .exact
+  sum-is e = let (o, h) = reports e in sym (λ i. halfUnits (o i) (h i)) ∙ halving (P (four c x) +ℤ Q (four c x)) .exact
 
 -- an entry of a legal ledger
 module _ (i : Entry) (legal : natAbs (i .ledger .debt) < 2 ^ 50) where
@@ -54,8 +54,8 @@ module _ (i : Entry) (legal : natAbs (i .ledger .debt) < 2 ^ 50) where
   enters sum s = either entry-meets i (OwedOrRefused i sum) (λ n l p. refused-by sum n (refusals n p)) (λ o (_, (_, (_, e))). inl (sym e ∙ ap (owing (i .ledger)) s))
 
 pub corrections : Corrections
-corrections b demand c x l offset half delay told legal =
+corrections b demand c x l offset half delay accepted legal =
     let i : Entry = record { ledger = l; offset = offset; half = half } in
     let only = unique b demand in
-    let s = sum-is c x offset half delay (sym (ap (λ (o : Outcome). o .result) (only .same client (c, arrival x))) ∙ told) in
+    let s = sum-is c x offset half delay (sym (ap (λ (o : Outcome). o .result) (only .same client (c, arrival x))) ∙ accepted) in
     subst (OwedOrRefused i (P (four c x) +ℤ Q (four c x))) (sym (only .same entry i)) (enters i legal (P (four c x) +ℤ Q (four c x)) s)

@@ -33,7 +33,7 @@ gap t a u b low high =
 module _ (e : Exchange) (o : Orderly e) where
   open Exchange e using (sent, received, answered, arrived, client, server)
 
-  record Known : Type 0 where
+  record Gaps : Type 0 where
     short : up arrived + dn sent ≤ up sent + dn arrived + 2 ^ 36
     above : up server + dn client < dn server + up client + (2 ^ 62 - 2 ^ 36)
     below : dn server + up client < up server + dn client + (2 ^ 62 - 2 ^ 36)
@@ -42,8 +42,8 @@ module _ (e : Exchange) (o : Orderly e) where
     first : Gap received server sent client
     second : Gap answered server arrived client
 
-  known : Known
-  known =
+  gaps : Gaps
+  gaps =
       let m = minus server client in
       let n = o .near in
       let out = o .outward in
@@ -73,7 +73,7 @@ module _ (e : Exchange) (o : Orderly e) where
 
   pub timely : Timely
   timely =
-      let k = known in
+      let k = gaps in
       let out = o .outward in
       let held = o .hold in
       let back = o .back in
@@ -93,7 +93,7 @@ module _ (e : Exchange) (o : Orderly e) where
 
   pub bound : pos (natAbs (twice (floorHalf total-sum) +ℤ pos (halfOf total-sum) -ℤ twice (trueDifference e))) ≤ℤ d (readings e)
   bound =
-      let k = known in
+      let k = gaps in
       let out = o .outward in
       let held = o .hold in
       let back = o .back in

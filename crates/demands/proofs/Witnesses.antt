@@ -29,7 +29,7 @@ premises b e o asked = record {
   synchronised = refl;
   set = record { leap = lit≤ tt; precision = (leZ-yes tt, leZ-yes tt) };
   room = lit≤ tt;
-  permitted = (tt, ((λ whole same. o .nonzero .0 (sym same)), ((λ whole same. o .nonzero .0 (sym same)), (lit< tt, tt))));
+  permitted = (tt, ((λ packet same. o .nonzero .0 (sym same)), ((λ packet same. o .nonzero .0 (sym same)), (lit< tt, tt))));
 }
 
 -- tests, together and one by one

@@ -70,11 +70,11 @@ same c b cs fits = ap (answeredFrame c) (decoding .reads b cs ∙ ap (λ n. atMo
 abbrev Same : List ℕ → Type 0
 Same input = (c : Client) (b cs : List ℕ) → length b ≡ 85 → allAnswers (at c (held b cs)) input ≡ answers c (lines cs input)
 
-same-whole : (input : List ℕ) → Same input
+same-all : (input : List ℕ) → Same input
 unfolding lines answers
-same-whole [] c b [] fits = rw (decoding .begins b [])
-same-whole [] c b (x ∷ cs) fits = rw (decoding .begins b (x ∷ cs), append-nil) (ap (λ z. text (z .octets)) (same c b (x ∷ cs) fits))
-same-whole (x ∷ input) c b cs fits = go (eqb x 10) refl (same-whole input)
+same-all [] c b [] fits = rw (decoding .begins b [])
+same-all [] c b (x ∷ cs) fits = rw (decoding .begins b (x ∷ cs), append-nil) (ap (λ z. text (z .octets)) (same c b (x ∷ cs) fits))
+same-all (x ∷ input) c b cs fits = go (eqb x 10) refl (same-all input)
   where
     go : (t : Bool) → eqb x 10 ≡ t → Same input → allAnswers (at c (held b cs)) (x ∷ input) ≡ answers c (lines cs (x ∷ input))
     go true e f =
@@ -87,4 +87,4 @@ same-whole (x ∷ input) c b cs fits = go (eqb x 10) refl (same-whole input)
 
 -- from the beginning no character has come yet
 pub replayed : (input : List ℕ) → allAnswers begin input ≡ replay input
-replayed input = same-whole input fresh (replicate 85 0) [] refl
+replayed input = same-all input fresh (replicate 85 0) [] refl
