@@ -1,4 +1,4 @@
--- Dates of timestamps, and timestamps of dates (document 01, "The calendar").
+-- Dates of timestamps, and timestamps of dates (docs/RULES.md, "The calendar").
 use Prim.Native.Nat.{ℕ, _+_, _-_, _^_}
 use mathlib.Core.Bool.{Bool, cond, not, _&&_}
 use lib.Dec.{leb, ltb}

@@ -1,4 +1,4 @@
--- The Gregorian calendar: the lengths of years and months, and the days before each (document 01, "The calendar").
+-- The Gregorian calendar: the lengths of years and months, and the days before each (docs/RULES.md, "The calendar").
 use Prim.Native.Nat.{ℕ, zero, suc, _+_, _%_}
 use mathlib.Core.Bool.{Bool, cond, not, _&&_, _||_}
 use mathlib.Core.List.{List, [], _∷_}

@@ -1,4 +1,4 @@
--- Timestamps and dates match one to one (document 01, "The calendar"), but for zero and one date of the window, each refused by 24.
+-- Timestamps and dates match one to one (docs/RULES.md, "The calendar"), but for zero and one date of the window, each refused by 24.
 use mathlib.Core.Path.{_≡_}
 use mathlib.Core.Logic.{_↔_}
 use mathlib.Core.Bool.{true}

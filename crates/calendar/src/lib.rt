@@ -1,4 +1,4 @@
-// Dates of timestamps, and timestamps of dates (document 01, "The calendar").
+// Dates of timestamps, and timestamps of dates (docs/RULES.md, "The calendar").
 ghost use mathlib.Core.Path.{_≡_};
 ghost use mathlib.Core.Bool.{true};
 ghost use Prim.Native.Nat.{_+_, _*_, _^_, _≤_, _<_};

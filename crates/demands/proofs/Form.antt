@@ -77,7 +77,7 @@ passes (refuses n) o p = absurd p
 
 -- ---- what demand 1 asks of a program that meets demand 2: the rules' numbers are listed, a refusal shows its number, and no outcome of the rules is one
 
--- every number of the rules has the property
+-- every number of the rules have the property
 abbrev pub numbered : {O : Type 0} → (ℕ → Bool) → Rules O → Bool
 numbered q (n unless P then rest) = q n && numbered q rest
 numbered q (o provided P else rest) = numbered q rest

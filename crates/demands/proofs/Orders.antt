@@ -1,4 +1,4 @@
--- The orders are those of document 01, by computation.
+-- The orders are those of the rules, by computation.
 use mathlib.Core.Path.{refl}
 use Rattle.offset.specs.Offset.{offsetTests}
 use Rattle.client.specs.Ask.{askTests}

@@ -63,7 +63,7 @@ module _ (e : Exchange) where
   abbrev pub readings : Four
   readings = record { t1 = T1; t2 = T2; t3 = T3; t4 = T4 }
 
-  -- document 01's true difference, not reduced
+  -- the rules' true difference, not reduced
   abbrev pub trueDifference : ℤ
   trueDifference = e .server -ℤ e .client
 

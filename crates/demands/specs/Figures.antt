@@ -1,4 +1,4 @@
--- The twelve figures that document 01 marks to be proved, one table under one claim about the definitions.
+-- The twelve figures that the rules mark to be proved, one table under one claim about the definitions.
 use Prim.Native.Nat.{ℕ, _+_, _-_, _*_, _^_}
 use mathlib.Core.Path.{_≡_}
 use mathlib.Core.List.{List, [], _∷_, _++_}
@@ -18,10 +18,10 @@ use Rattle.client.specs.Calls.{ask, arrival, Result, accepted, step}
 use Rattle.demands.specs.Form.{Shown, telling}
 use Rattle.demands.specs.Measure.{shown}
 
--- a question, and document 01's answer
+-- a question, and the rules' answer
 pub data Figure : Type 0 where
   gives : (t1 t2 t3 t4 : ℕ) → (offset : ℤ) (half : ℕ) (delay : ℤ) → Figure  -- four timestamps give offset, half and delay
-  givesHalf : (t1 t2 t3 t4 : ℕ) → (offset : ℤ) (half : ℕ) → Figure  -- and where document 01 names no delay
+  givesHalf : (t1 t2 t3 t4 : ℕ) → (offset : ℤ) (half : ℕ) → Figure  -- and where the rules name no delay
   givesOffset : (t1 t2 t3 t4 : ℕ) → (offset : ℤ) → Figure  -- nor a half
   refusedBy : (t1 t2 t3 t4 number : ℕ) → Figure
   afterAsk : (clock : ℕ) (packet : List ℕ) (t4 : ℕ) → Result → Figure  -- an arrival after a fresh client's ask in version 4

@@ -9,7 +9,7 @@ use lib.ListN.{length, replicate}
 use Rattle.refusals.specs.Numbers as numbers
 use Rattle.ordered_tests.specs.Tests.{Given, refused, answered}
 
--- ---- what the caller is shown (document 01, "Numbers a caller may see")
+-- ---- what the caller is shown (docs/RULES.md, "Numbers a caller may see")
 
 -- which kind of answer it is
 pub data Kind : Type 0 where

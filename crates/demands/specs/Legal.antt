@@ -1,4 +1,4 @@
--- Which records of a client are legal (document 01, "The client"), in plain facts.
+-- Which records of a client are legal (docs/RULES.md, "The client"), in plain facts.
 use Prim.Native.Nat.{_≤_}
 use mathlib.Core.Path.{_≡_}
 use mathlib.Core.Logic.{_≢_, _↔_}

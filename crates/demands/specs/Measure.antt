@@ -16,7 +16,7 @@ pub record Four : Type 0 where
   pub t3 : Timestamp
   pub t4 : Timestamp
 
--- document 01's first difference P, second difference Q and delay d
+-- the rules' first difference P, second difference Q and delay d
 abbrev pub P : Four → ℤ
 P x = x .t2 since x .t1
 

@@ -1,4 +1,4 @@
--- The order of each call's tests (document 01), as lists of numbers, in one place. The checker computes that each call's rules, which the demands go by, and
+-- The order of each call's tests, those of docs/RULES.md, as lists of numbers, in one place. The checker computes that each call's rules, which the demands go by, and
 -- its table of tests, which the contracts of the code go by, have it.
 use Prim.Native.Nat.{ℕ}
 use mathlib.Core.Path.{_≡_}
@@ -38,7 +38,7 @@ pub data Place : Type 0 where
   test : ℕ → Place
   kiss : Place
 
--- ---- document 01's orders
+-- ---- the orders of docs/RULES.md
 
 abbrev tests : List ℕ → List Place
 tests [] = []

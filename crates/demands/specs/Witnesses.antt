@@ -1,4 +1,4 @@
--- Exchanges that meet the premises of demand 3: the one of document 01's replay, over 2036, and two at the edge of what is allowed.
+-- Exchanges that meet the premises of demand 3: the one of the rules' replay, over 2036, and two at the edge of what is allowed.
 use Prim.Native.Nat.{ℕ, _+_, _-_, _^_}
 use mathlib.Core.Path.{_≡_}
 use mathlib.Core.Bool.{true}

@@ -1,4 +1,4 @@
--- The characters of a line of hexadecimal, as they come in (document 01, "Replay lines").
+-- The characters of a line of hexadecimal, as they come in (docs/RULES.md, "Replay lines").
 use Prim.Native.Nat.{ℕ, _+_, _-_, _*_}
 use mathlib.Core.Bool.{Bool, true, false, not, cond, _&&_, _||_}
 use mathlib.Core.List.{List}

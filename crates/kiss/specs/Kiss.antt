@@ -1,4 +1,4 @@
--- Kiss codes and their rows (document 01, "Kiss").
+-- Kiss codes and their rows (docs/RULES.md, "The client").
 use Prim.Native.Nat.{ℕ, suc}
 use Prim.Native.Char as char
 use Prim.Native.String.{String}
@@ -18,7 +18,7 @@ abbrev pub octetsOf : String → List ℕ
 octetsOf text.[] = []
 octetsOf (text._∷_ c s) = char.code c ∷ octetsOf s
 
--- document 01's rows 1 to 14
+-- the rules' rows 1 to 14
 abbrev pub names : List String
 names = "ACST" ∷ "AUTH" ∷ "AUTO" ∷ "BCST" ∷ "CRYP" ∷ "DENY" ∷ "DROP" ∷ "RSTR" ∷ "INIT" ∷ "MCST" ∷ "NKEY" ∷ "RATE" ∷ "RMOT" ∷ "STEP" ∷ []
 

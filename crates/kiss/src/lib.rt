@@ -9,7 +9,7 @@ pub fn code(name: &[u8; 4]) -> u32
     octets::be32(name[0], name[1], name[2], name[3])
 }
 
-// The codes of document 01's rows 1 to 14.
+// The codes of the rules' rows 1 to 14.
 fn codes() -> [u32; 14]
     ensures { λ r. ⌜ r ≡ codes names ⌝ }
 {
@@ -45,7 +45,7 @@ fn row_in(codes: [u32; 14], c: u32) -> u8
     0
 }
 
-// The row of a code in document 01's list, from 1 on; 0 for any other code.
+// The row of a code in the rules' list, from 1 on; 0 for any other code.
 pub fn row(c: u32) -> u8
     ensures { λ r. ⌜ r ≡ rowOf c ⌝ }
 {

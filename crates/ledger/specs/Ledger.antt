@@ -1,4 +1,4 @@
--- A ledger of corrections that are paid out slowly, in half units: an entry adds to the debt, and a tick pays of it (the first change request).
+-- A ledger of corrections that are paid out slowly, in half units: an entry adds to the debt, and a tick pays of it (docs/RULES.md, "The ledger").
 use Prim.Native.Nat.{ℕ, suc, min, _^_}
 use mathlib.Core.Bool.{Bool, not, _||_}
 use lib.Dec.{leb}

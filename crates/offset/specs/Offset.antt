@@ -1,4 +1,4 @@
--- The offset, the half and the delay of four timestamps: T1 sent, T2 received, T3 answered, T4 arrived (document 01, "Timestamps and their differences").
+-- The offset, the half and the delay of four timestamps: T1 sent, T2 received, T3 answered, T4 arrived (docs/RULES.md, "Timestamps and their differences").
 use Prim.Native.Nat.{ℕ, suc, _/_, _^_}
 use mathlib.Core.Bool.{Bool, not, _||_}
 use lib.IntN.{ℤ, pos, negsuc, negℤ, _+ℤ_, _-ℤ_}
@@ -17,7 +17,7 @@ unfoldable pub floorHalf : ℤ → ℤ
 floorHalf (pos a) = pos (a / 2)
 floorHalf (negsuc a) = negℤ (pos (suc (a / 2)))
 
--- document 01's half: what is left of the sum, 0 or 1
+-- the rules' half: what is left of the sum, 0 or 1
 unfoldable pub halfOf : ℤ → ℕ
 halfOf sum = sum modulo 2
 
@@ -38,6 +38,6 @@ offsetTests trip hold p q =
     difference-out-of-range if outOfRange p || outOfRange q else
     otherwise (Measured (floorHalf (p +ℤ q)) (halfOf (p +ℤ q)) (trip -ℤ hold))
 
--- document 01's first difference P = T2 - T1, second difference Q = T3 - T4
+-- the rules' first difference P = T2 - T1, second difference Q = T3 - T4
 unfoldable pub measured : (t1 t2 t3 t4 : Timestamp) → OffsetAnswer
 measured t1 t2 t3 t4 = answer Refused (offsetTests (t4 since t1) (t3 since t2) (t2 since t1) (t3 since t4))

@@ -1,4 +1,4 @@
--- The fields of a packet, its 48 octets, and what reading and writing give (document 01, "The 48 octets" and "Numbers a caller may see").
+-- The fields of a packet, its 48 octets, and what reading and writing give (docs/RULES.md, "The 48 octets" and "Numbers a caller may see").
 use Prim.Native.Nat.{ℕ, suc, _+_, _-_, _*_, _/_, _%_}
 use mathlib.Core.Bool.{Bool, not, _||_}
 use mathlib.Core.List.{List, _∷_, _++_}

@@ -1,4 +1,4 @@
--- Uptimes in whole seconds, and the poll exponent (document 01, "The client" and the numbers 6 and 20).
+-- Uptimes in whole seconds, and the poll exponent (docs/RULES.md, "The client" and the numbers 6 and 20).
 use Prim.Native.Nat.{ℕ, suc, min, _+_}
 use mathlib.Core.Bool.{Bool}
 use lib.Dec.{ltb}

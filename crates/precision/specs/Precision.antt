@@ -1,4 +1,4 @@
--- The precision octet of a clock's tick (document 01, "The 48 octets"). "Tick" is document 01's term: the step of a clock, in units of 2^-32 s.
+-- The precision octet of a clock's tick (docs/RULES.md, "The 48 octets"). "Tick" is the rules' term: the step of a clock, in units of 2^-32 s.
 use Prim.Native.Nat.{ℕ, zero, suc, _^_}
 use mathlib.Core.Bool.{cond, _||_}
 use lib.Dec.{eqb, leb, ltb}

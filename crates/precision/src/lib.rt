@@ -1,4 +1,4 @@
-// The precision octet of a clock's tick (document 01, "The 48 octets").
+// The precision octet of a clock's tick (docs/RULES.md, "The 48 octets").
 ghost use mathlib.Core.Path.{_≡_};
 ghost use Prim.Native.Nat.{_≤_};
 ghost use lib.IntN.{pos, _-ℤ_};

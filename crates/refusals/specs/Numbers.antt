@@ -1,4 +1,4 @@
--- The numbers that a caller may see, one name each, as document 01's table has them. src/lib.rt has the same names in capitals for code.
+-- The numbers that a caller may see, one name each, as the rules' table has them. src/lib.rt has the same names in capitals for code.
 use Prim.Native.Nat.{ℕ}
 use mathlib.Core.Bool.{Bool, false, _||_}
 use mathlib.Core.List.{List, [], _∷_}

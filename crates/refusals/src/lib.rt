@@ -107,7 +107,7 @@ pub const ROOT_DISPERSION_TOO_LARGE: u8 = 34;
 // Replay line malformed.
 pub const LINE_MALFORMED: u8 = 64;
 
-// All of them, in the order of document 01's table.
+// All of them, in the order of the rules' table.
 pub fn numbers() -> [u8; 35]
     ensures { λ r. ⌜ r ≡ numbers ⌝ }
 {

@@ -1,4 +1,4 @@
--- The checks of a reply to the request with this transmit timestamp and version (document 01, "The client").
+-- The checks of a reply to the request with this transmit timestamp and version (docs/RULES.md, "The client").
 use Prim.Native.Nat.{ℕ}
 use mathlib.Core.Bool.{Bool, not}
 use mathlib.Core.List.{List}

@@ -1,4 +1,4 @@
--- The client's request, as fields and as octets (document 01, "The client"). proofs/Request.antt proves `RequestOctets`.
+-- The client's request, as fields and as octets (docs/RULES.md, "The client"). proofs/Request.antt proves `RequestOctets`.
 use Prim.Native.Nat.{ℕ, _+_, _*_, _≤_}
 use mathlib.Core.Path.{_≡_}
 use mathlib.Core.List.{List, _∷_, _++_}

@@ -1,4 +1,4 @@
--- The sanity checks of a reply's own fields (document 01, "The client"; RFC 4330, section 5). That the packet answers the request is tested before them,
+-- The sanity checks of a reply's own fields (docs/RULES.md, "The client"; RFC 4330, section 5). That the packet answers the request is tested before them,
 -- and its four timestamps together after them.
 use Prim.Native.Nat.{ℕ}
 use mathlib.Core.Bool.{Bool, _||_}

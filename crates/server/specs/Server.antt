@@ -1,4 +1,4 @@
--- What the server replies to a request (document 01, "The server").
+-- What the server replies to a request (docs/RULES.md, "The server").
 use Prim.Native.Nat.{ℕ}
 use mathlib.Core.Bool.{Bool, cond, not, _&&_, _||_}
 use mathlib.Core.List.{List, _++_}

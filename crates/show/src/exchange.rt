@@ -1,4 +1,4 @@
-// A client and a server of ours: document 01's exchange across 2036, a kiss, a give-up and a few refusals, a line a call.
+// A client and a server of ours: the rules' exchange across 2036, a kiss, a give-up and a few refusals, a line a call.
 use crate::print::decimal;
 use crate::print::hexadecimal;
 use crate::print::measured;

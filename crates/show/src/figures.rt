@@ -1,4 +1,4 @@
-// What the proved parts answer on figures of document 01, a line each.
+// What the proved parts answer on figures of the rules, a line each.
 use crate::print::decimal;
 use crate::print::hexadecimal;
 use crate::print::measured;

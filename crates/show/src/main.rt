@@ -1,4 +1,4 @@
-// Shows the proved parts at work: a client and a server of ours, then the figures of document 01.
+// Shows the proved parts at work: a client and a server of ours, then the figures of the rules.
 mod exchange;
 mod figures;
 mod print;

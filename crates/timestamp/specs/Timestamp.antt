@@ -1,4 +1,4 @@
--- Timestamps and their differences (document 01, "Timestamps and their differences").
+-- Timestamps and their differences (docs/RULES.md, "Timestamps and their differences").
 use Prim.Native.Nat.{ℕ, _+_, _*_, _/_, _%_, _^_}
 use mathlib.Core.Bool.{Bool}
 use lib.Dec.{eqb}

@@ -1,4 +1,4 @@
--- Wrong clients (document 01, "Slips that look reasonable" and "How much each public function must say"). Each does what ours does but for one thing.
+-- Wrong clients (docs/RULES.md, "Slips that look reasonable" and "How much each public function must say"). Each does what ours does but for one thing.
 use Prim.Native.Nat.{ℕ, _+_, _^_}
 use mathlib.Core.Bool.{cond, not}
 use mathlib.Core.List.{List, [], _++_}
