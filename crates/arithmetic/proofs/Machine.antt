@@ -36,17 +36,13 @@ unfolding bits _modulo_
 bits-ofZ w (pos n) f = mod-eq-of-lt (half-full w (f .sfits))
 bits-ofZ w (negsuc n) f = ap (λ m. 2 ^ val.bits w - suc m) (mod-eq-of-lt (half-full w (f .sfits)))
 
--- to fit a signed type of the language is to fit its width
+-- what fits a signed type of the language fits its width
 half-width : (w : Width) → 2 ^ (val.bits w - 1) ≡ 2 ^ hbits w
 half-width w8 = refl
 half-width w16 = refl
 half-width w32 = refl
 half-width w64 = refl
 half-width w128 = refl
-
-pub fits-sfits : (w : Width) (z : ℤ) → Fits (val.bits w) z → SFits w z
-fits-sfits w (pos n) f = record { sfits = omega (arith, integers, half-width w, f .high) }
-fits-sfits w (negsuc n) f = record { sfits = omega (arith, integers, half-width w, f .low, neg (pos (2 ^ (val.bits w - 1)))) }
 
 pub sfits-fits : (w : Width) (z : ℤ) → SFits w z → Fits (val.bits w) z
 sfits-fits w (pos n) f = record { low = omega (arith, integers, neg (pos (2 ^ (val.bits w - 1)))); high = omega (arith, integers, half-width w, f .sfits) }

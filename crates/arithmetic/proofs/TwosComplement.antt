@@ -106,7 +106,3 @@ module _ (k : ℕ) (x y : ℤ) (some : 0 < k) where
 
       rn : Congruent M (pos (N modulo M)) N
       rn = residue N M p
-
-  pub exact-only : difference k (x modulo 2 ^ k) (y modulo 2 ^ k) ≡ x -ℤ y → Fits k (x -ℤ y)
-  unfolding difference
-  exact-only e = rw e at (signed-fits k ((pos (x modulo 2 ^ k) -ℤ pos (y modulo 2 ^ k)) modulo 2 ^ k) some (modulo-below _ (pow-pos k)))

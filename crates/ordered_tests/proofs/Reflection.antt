@@ -3,7 +3,7 @@ use mathlib.Core.Path.{_≡_, refl, sym, subst}
 use mathlib.Core.Bool.{Bool, true, false, not, _&&_, _||_}
 use Prim.Native.Nat.{ℕ, _≤_, _<_}
 use lib.Dec.{T, leb, ltb, eqb}
-use mir.Facts.{ltb-no, no-ltb, leb-no, no-leb, leb-yes, yes-leb, and-yes, yes-and, or-no, T-not-not, eqb-yes, yes-eqb}
+use mir.Facts.{ltb-no, no-ltb, ltb-yes, yes-ltb, leb-no, no-leb, leb-yes, yes-leb, and-yes, yes-and, or-no, T-not-not, eqb-yes, yes-eqb}
 use Rattle.ordered_tests.specs.Tests.{between}
 
 -- the fact P holds exactly where the test b does
@@ -93,6 +93,9 @@ below n m = record { to = no-leb; from = leb-no }
 
 pub not-above : (n m : ℕ) → WhereTrue (n ≤ m) (leb n m)
 not-above n m = record { to = yes-leb; from = leb-yes }
+
+pub is-below : (n m : ℕ) → WhereTrue (n < m) (ltb n m)
+is-below n m = record { to = yes-ltb; from = ltb-yes }
 
 pub equal : (m n : ℕ) → WhereTrue (m ≡ n) (eqb m n)
 equal m n = record { to = yes-eqb; from = eqb-yes }
