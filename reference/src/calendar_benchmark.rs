@@ -1,49 +1,53 @@
-//! The work of the proved program calendar_benchmark, by a given calendar:
-//! ten million conversions and a sum of what they gave, modulo 2^32.
+//! The work that `tests/benchmark` measures, by a given calendar: ten million conversions, and the
+//! sum of what they gave, modulo 2^32.
 
 use crate::calendar::{self, Date};
 use crate::direct_calendar;
+use crate::refusal::Refusal;
 
 const COUNT: u64 = 10_000_000;
+/// Units from one timestamp to the next, over the whole window.
 const STEP: u64 = 1_844_674_407_370;
 
-fn sum_of(value: impl Fn(u64) -> u64) -> u64 {
-    (0..COUNT).fold(0, |sum, i| (sum + value(i)) % 0x1_0000_0000)
-}
-
-fn dates(date_of: impl Fn(u64) -> Result<Date, u8>) -> u64 {
-    sum_of(|i| match date_of(i * STEP) {
-        Err(number) => number as u64,
-        Ok(d) => {
-            d.year as u64 * 7
-                + d.month as u64 * 6
-                + d.day as u64 * 5
-                + d.hour as u64 * 4
-                + d.minute as u64 * 3
-                + d.second as u64 * 2
-        }
+fn sum_of(value: impl Fn(u64) -> Result<u64, Refusal>) -> u64 {
+    (0..COUNT).fold(0, |sum, i| {
+        let value = value(i).unwrap_or_else(|refusal| refusal.number().into());
+        (sum + value) % 0x1_0000_0000
     })
 }
 
-fn timestamps(timestamp_of: impl Fn(&Date) -> Result<u64, u8>) -> u64 {
-    sum_of(|i| {
-        let date = Date {
-            year: (1968 + i % 137) as u32,
-            month: (1 + i / 137 % 12) as u8,
-            day: (1 + i / 1644 % 31) as u8,
-            hour: (i % 24) as u8,
-            minute: (i % 60) as u8,
-            second: (i / 60 % 60) as u8,
-            fraction: 1,
-        };
-        match timestamp_of(&date) {
-            Err(number) => number as u64,
-            Ok(timestamp) => timestamp >> 32,
-        }
-    })
+/// A date as one number.
+fn weighed(date: &Date) -> u64 {
+    7 * u64::from(date.year)
+        + 6 * u64::from(date.month)
+        + 5 * u64::from(date.day)
+        + 4 * u64::from(date.hour)
+        + 3 * u64::from(date.minute)
+        + 2 * u64::from(date.second)
 }
 
-/// The line that the proved program writes; nothing for a calendar or a direction that there is not.
+fn dates(date_of: impl Fn(u64) -> Result<Date, Refusal>) -> u64 {
+    sum_of(|i| date_of(i * STEP).map(|date| weighed(&date)))
+}
+
+/// One of the dates to convert.
+fn date(i: u64) -> Date {
+    Date {
+        year: (1968 + i % 137) as u32,
+        month: (1 + i / 137 % 12) as u8,
+        day: (1 + i / 1644 % 31) as u8,
+        hour: (i % 24) as u8,
+        minute: (i % 60) as u8,
+        second: (i / 60 % 60) as u8,
+        fraction: 1,
+    }
+}
+
+fn timestamps(timestamp_of: impl Fn(&Date) -> Result<u64, Refusal>) -> u64 {
+    sum_of(|i| timestamp_of(&date(i)).map(|timestamp| timestamp >> 32))
+}
+
+/// The line to be written; none for a calendar or a direction that is not known.
 pub fn line(calendar: &str, direction: &str) -> Option<String> {
     let sum = match (calendar, direction) {
         ("walk", "D") => dates(calendar::date_of),

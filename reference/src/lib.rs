@@ -1,24 +1,23 @@
-//! An independent second program for the SNTP client, server, calendar, ledger
-//! and line formats. Written from the papers only, with plain means, so that its
-//! answers can be compared octet for octet with another program's.
+//! An independent second program for the SNTP client, server, calendar, precision octet, ledger
+//! and both line formats, so that its answers can be compared octet for octet with another
+//! program's. It is written from docs/RULES.md and docs/CONFORMANCE.md alone.
 
+pub mod arrival;
 pub mod calendar;
 pub mod calendar_benchmark;
 pub mod client;
 pub mod conformance;
 pub mod count;
 pub mod direct_calendar;
-pub mod generate_conformance;
-pub mod generate_ledger;
-pub mod generate_replay;
+pub mod generate;
+pub mod hex_lines;
+pub mod kiss;
 pub mod ledger;
-pub mod lines;
-pub mod material;
-pub mod opening;
+pub mod octets;
 pub mod packet;
 pub mod precision;
 pub mod random;
+pub mod refusal;
 pub mod replay;
 pub mod server;
-pub mod sides;
-pub mod time;
+pub mod timestamp;

@@ -1,5 +1,9 @@
-use reference::{calendar_benchmark, conformance, count, generate_conformance, generate_replay, replay};
-use std::io::{self, Write};
+//! The commands of the independent program.
+
+use reference::count::{self, Counter};
+use reference::{calendar_benchmark, conformance, generate, replay};
+use std::fs::File;
+use std::io::{self, BufReader, Write};
 use std::process::ExitCode;
 
 const USE: &str = "usage:
@@ -7,70 +11,75 @@ const USE: &str = "usage:
   reference conformance < LINES
   reference generate conformance COUNT SEED [open]
   reference generate replay COUNT SEED [open]
-  reference count conformance LINES ANSWERS
-  reference count replay FRAMES ANSWERS
+  reference count conformance LINES ANSWERS [LINES ANSWERS ...]
+  reference count replay FRAMES ANSWERS [FRAMES ANSWERS ...]
   reference calendar walk|direct D|T";
 
 fn main() -> ExitCode {
     let words: Vec<String> = std::env::args().skip(1).collect();
-    let words: Vec<&str> = words.iter().map(|w| w.as_str()).collect();
+    let words: Vec<&str> = words.iter().map(String::as_str).collect();
     match run(&words) {
-        Ok(true) => ExitCode::SUCCESS,
-        Ok(false) => ExitCode::FAILURE,
-        Err(message) => {
-            eprintln!("{message}");
-            ExitCode::from(2)
-        }
-    }
-}
-
-fn number(word: &str) -> Result<u64, String> {
-    word.parse().map_err(|_| format!("not a number: {word}"))
-}
-
-fn run(words: &[&str]) -> Result<bool, String> {
-    let told = |result: io::Result<()>| match result {
+        Ok(()) => ExitCode::SUCCESS,
         // Whoever reads our output may stop early.
-        Err(e) if e.kind() == io::ErrorKind::BrokenPipe => Ok(true),
-        Err(e) => Err(e.to_string()),
-        Ok(()) => Ok(true),
-    };
-    let input = io::stdin().lock();
-    let mut output = io::stdout().lock();
-    match words {
-        ["replay"] => told(replay::run(input, output)),
-        ["conformance"] => told(conformance::run(input, output)),
-        ["generate", what, count, seed, rest @ ..] => {
-            let open = match rest {
-                [] => false,
-                ["open"] => true,
-                _ => return Err(USE.to_string()),
-            };
-            let (count, seed) = (number(count)?, number(seed)?);
-            match *what {
-                "conformance" => told(generate_conformance::run(count, seed, open, output)),
-                "replay" => told(generate_replay::run(count, seed, open, output)),
-                _ => Err(USE.to_string()),
-            }
+        Err(error) if error.kind() == io::ErrorKind::BrokenPipe => ExitCode::SUCCESS,
+        Err(error) => {
+            eprintln!("{error}");
+            ExitCode::FAILURE
         }
-        ["count", what, lines, answers] => {
-            let table = match *what {
-                "conformance" => count::conformance(lines, answers),
-                "replay" => count::replay(lines, answers),
-                _ => return Err(USE.to_string()),
-            };
-            let table = table.map_err(|e| e.to_string())?;
-            let missing = table.missing();
-            told(output.write_all(table.text().as_bytes()))?;
-            for row in &missing {
-                eprintln!("never occurred: {row}");
-            }
-            Ok(missing.is_empty())
-        }
-        ["calendar", calendar, direction] => match calendar_benchmark::line(calendar, direction) {
-            Some(line) => told(output.write_all(line.as_bytes())),
-            None => Err(USE.to_string()),
-        },
-        _ => Err(USE.to_string()),
     }
+}
+
+fn problem(message: impl Into<String>) -> io::Error {
+    io::Error::other(message.into())
+}
+
+fn run(words: &[&str]) -> io::Result<()> {
+    match words {
+        ["replay"] => replay::run(io::stdin().lock(), io::stdout().lock()),
+        ["conformance"] => conformance::run(io::stdin().lock(), io::stdout().lock()),
+        ["generate", program, count, seed] => generate(program, count, seed, false),
+        ["generate", program, count, seed, "open"] => generate(program, count, seed, true),
+        ["count", "conformance", files @ ..] => count(count::conformance::counter(), files),
+        ["count", "replay", files @ ..] => count(count::replay::counter(), files),
+        ["calendar", calendar, direction] => {
+            let line = calendar_benchmark::line(calendar, direction);
+            io::stdout().write_all(line.ok_or_else(|| problem(USE))?.as_bytes())
+        }
+        _ => Err(problem(USE)),
+    }
+}
+
+fn number(word: &str) -> io::Result<u64> {
+    word.parse().map_err(|_| problem(format!("not a number: {word}")))
+}
+
+fn generate(program: &str, count: &str, seed: &str, open: bool) -> io::Result<()> {
+    let (count, seed) = (number(count)?, number(seed)?);
+    let output = io::stdout().lock();
+    match program {
+        "conformance" => generate::conformance::run(count, seed, open, output),
+        "replay" => generate::replay::run(count, seed, open, output),
+        _ => Err(problem(USE)),
+    }
+}
+
+/// Counts over pairs of files, and fails where a row never occurred.
+fn count(mut counter: Counter, files: &[&str]) -> io::Result<()> {
+    let (pairs, []) = files.as_chunks::<2>() else {
+        return Err(problem(USE));
+    };
+    for [lines, answers] in pairs {
+        counter.count(open(lines)?, open(answers)?)?;
+    }
+    io::stdout().write_all(counter.text().as_bytes())?;
+    let missing = counter.missing();
+    if missing.is_empty() {
+        return Ok(());
+    }
+    Err(problem(format!("never occurred: {}", missing.join(", "))))
+}
+
+fn open(name: &str) -> io::Result<BufReader<File>> {
+    let file = File::open(name).map_err(|error| problem(format!("{name}: {error}")))?;
+    Ok(BufReader::new(file))
 }

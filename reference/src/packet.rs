@@ -1,4 +1,12 @@
-//! The 48 octets, read and written with plain slices.
+//! The fields of the 48 octets, read and written: docs/RULES.md, "The 48 octets".
+
+use crate::octets::{Reader, Short, Writer};
+use crate::refusal::Refusal::{self, *};
+
+/// Octets that the fields take.
+pub const LENGTH: usize = 48;
+/// Octets of a packet with an authenticator.
+pub const LENGTH_WITH_AUTHENTICATOR: usize = LENGTH + 20;
 
 #[derive(Clone, Copy, PartialEq, Eq, Debug, Default)]
 pub struct Fields {
@@ -17,106 +25,95 @@ pub struct Fields {
     pub transmit: u64,
 }
 
-/// Four octets, the first the highest.
-pub fn get4(octets: &[u8]) -> u32 {
-    octets[..4].iter().fold(0, |sum, &o| sum * 256 + o as u32)
+pub fn read(packet: &[u8]) -> Result<Fields, Refusal> {
+    let right = [LENGTH, LENGTH_WITH_AUTHENTICATOR].contains(&packet.len());
+    PacketLengthWrong.when(!right)?;
+    read_fields(packet).map_err(|Short| PacketLengthWrong)
 }
 
-/// Eight octets, the first the highest.
-pub fn get8(octets: &[u8]) -> u64 {
-    octets[..8].iter().fold(0, |sum, &o| sum * 256 + o as u64)
-}
-
-/// Whether a packet has one of the two lengths.
-pub fn right_length(packet: &[u8]) -> bool {
-    packet.len() == 48 || packet.len() == 68
-}
-
-/// Reads the fields; refuses by 7.
-pub fn read(packet: &[u8]) -> Result<Fields, u8> {
-    if !right_length(packet) {
-        return Err(7);
-    }
-    let mut identifier = [0; 4];
-    identifier.copy_from_slice(&packet[12..16]);
+fn read_fields(packet: &[u8]) -> Result<Fields, Short> {
+    let mut octets = Reader::new(packet);
+    let first = octets.u8()?;
     Ok(Fields {
-        leap: packet[0] / 64,
-        version: packet[0] / 8 % 8,
-        mode: packet[0] % 8,
-        stratum: packet[1],
-        poll: packet[2],
-        precision: packet[3] as i8,
-        root_delay: get4(&packet[4..8]) as i32,
-        root_dispersion: get4(&packet[8..12]),
-        identifier,
-        reference: get8(&packet[16..24]),
-        originate: get8(&packet[24..32]),
-        receive: get8(&packet[32..40]),
-        transmit: get8(&packet[40..48]),
+        leap: first / 64,
+        version: first / 8 % 8,
+        mode: first % 8,
+        stratum: octets.u8()?,
+        poll: octets.u8()?,
+        precision: octets.i8()?,
+        root_delay: octets.i32()?,
+        root_dispersion: octets.u32()?,
+        identifier: octets.octets()?,
+        reference: octets.u64()?,
+        originate: octets.u64()?,
+        receive: octets.u64()?,
+        transmit: octets.u64()?,
     })
 }
 
-/// Writes the fields; refuses by 1, then 27, with 0 for no refusal.
-pub fn write(fields: &Fields, buffer: &mut [u8]) -> u8 {
-    if buffer.len() < 48 {
-        return 1;
-    }
-    if fields.leap > 3 || fields.version > 7 || fields.mode > 7 {
-        return 27;
-    }
-    buffer[0] = fields.leap * 64 + fields.version * 8 + fields.mode;
-    buffer[1] = fields.stratum;
-    buffer[2] = fields.poll;
-    buffer[3] = fields.precision as u8;
-    buffer[4..8].copy_from_slice(&fields.root_delay.to_be_bytes());
-    buffer[8..12].copy_from_slice(&fields.root_dispersion.to_be_bytes());
-    buffer[12..16].copy_from_slice(&fields.identifier);
-    buffer[16..24].copy_from_slice(&fields.reference.to_be_bytes());
-    buffer[24..32].copy_from_slice(&fields.originate.to_be_bytes());
-    buffer[32..40].copy_from_slice(&fields.receive.to_be_bytes());
-    buffer[40..48].copy_from_slice(&fields.transmit.to_be_bytes());
-    0
+pub fn write(fields: &Fields, buffer: &mut [u8]) -> Result<(), Refusal> {
+    BufferTooShort.when(buffer.len() < LENGTH)?;
+    FieldTooLarge.when(fields.leap > 3 || fields.version > 7 || fields.mode > 7)?;
+    write_fields(fields, buffer).map_err(|Short| BufferTooShort)
+}
+
+fn write_fields(fields: &Fields, buffer: &mut [u8]) -> Result<(), Short> {
+    let mut octets = Writer::new(buffer);
+    octets.put([fields.leap * 64 + fields.version * 8 + fields.mode])?;
+    octets.put([fields.stratum, fields.poll])?;
+    octets.put(fields.precision.to_be_bytes())?;
+    octets.put(fields.root_delay.to_be_bytes())?;
+    octets.put(fields.root_dispersion.to_be_bytes())?;
+    octets.put(fields.identifier)?;
+    octets.put(fields.reference.to_be_bytes())?;
+    octets.put(fields.originate.to_be_bytes())?;
+    octets.put(fields.receive.to_be_bytes())?;
+    octets.put(fields.transmit.to_be_bytes())
 }
 
 #[cfg(test)]
 mod tests {
     use super::*;
+    use crate::random::Random;
 
     #[test]
     fn any_48_octets_write_back() {
-        let mut packet = [0u8; 48];
-        for round in 0..500u32 {
-            for (i, o) in packet.iter_mut().enumerate() {
-                *o = (round.wrapping_mul(2654435761).wrapping_add(i as u32 * 40503) >> 7) as u8;
-            }
-            packet[0] = round as u8;
+        let mut r = Random::new(1);
+        for first in 0..=255 {
+            let mut packet: [u8; LENGTH] = std::array::from_fn(|_| r.octet());
+            packet[0] = first;
             let fields = read(&packet).unwrap();
-            let mut back = [0xAAu8; 60];
-            assert_eq!(write(&fields, &mut back), 0);
+            let mut back = [0xAA; 60];
+            assert_eq!(write(&fields, &mut back), Ok(()));
             assert_eq!(back[..48], packet);
-            assert!(back[48..].iter().all(|&o| o == 0xAA));
+            assert_eq!(back[48..], [0xAA; 12]);
         }
     }
 
     #[test]
-    fn lengths_and_sizes() {
+    fn lengths() {
         for n in 0..=80 {
             let packet = vec![0x23; n];
-            assert_eq!(read(&packet).is_ok(), n == 48 || n == 68);
+            let refused = (n != 48 && n != 68).then_some(PacketLengthWrong);
+            assert_eq!(read(&packet).err(), refused);
             let mut buffer = vec![0; n];
-            let number = write(&Fields::default(), &mut buffer);
-            assert_eq!(number, if n < 48 { 1 } else { 0 });
+            let refused = (n < 48).then_some(BufferTooShort);
+            assert_eq!(write(&Fields::default(), &mut buffer).err(), refused);
         }
-        let mut buffer = [9u8; 48];
+    }
+
+    #[test]
+    fn sizes() {
+        let mut buffer = [9; 48];
         let large = [
             Fields { leap: 4, ..Fields::default() },
             Fields { version: 8, ..Fields::default() },
             Fields { mode: 8, ..Fields::default() },
         ];
         for fields in large {
-            assert_eq!(write(&fields, &mut buffer), 27);
-            assert_eq!(write(&fields, &mut buffer[..47]), 1);
+            assert_eq!(write(&fields, &mut buffer), Err(FieldTooLarge));
+            assert_eq!(write(&fields, &mut buffer[..47]), Err(BufferTooShort));
         }
-        assert_eq!(buffer, [9u8; 48]);
+        assert_eq!(buffer, [9; 48]);
     }
 }

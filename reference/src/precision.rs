@@ -1,13 +1,16 @@
 //! The precision octet, by a loop over powers of two.
 
-/// The exponent of the smallest power of two not below the tick, in seconds.
-pub fn precision(tick: u64) -> Result<i8, u8> {
-    if tick == 0 || tick as u128 > 1u128 << 32 {
-        return Err(28);
-    }
-    let mut exponent: i8 = -32;
-    let mut power: u128 = 1;
-    while power < tick as u128 {
+use crate::refusal::Refusal::{self, *};
+
+/// The largest tick: one second, in units of 2^-32 s.
+const LARGEST: u64 = 1 << 32;
+
+/// The exponent in seconds of the smallest power of two not below the tick.
+pub fn precision(tick: u64) -> Result<i8, Refusal> {
+    TickOutOfRange.when(tick == 0 || tick > LARGEST)?;
+    let mut exponent = -32;
+    let mut power = 1;
+    while power < tick {
         power *= 2;
         exponent += 1;
     }
@@ -29,8 +32,8 @@ mod tests {
         assert_eq!(precision(1 << 32), Ok(0));
         assert_eq!(precision((1 << 31) + 1), Ok(0));
         assert_eq!(precision(1 << 31), Ok(-1));
-        assert_eq!(precision(0), Err(28));
-        assert_eq!(precision((1 << 32) + 1), Err(28));
-        assert_eq!(precision(u64::MAX), Err(28));
+        assert_eq!(precision(0), Err(TickOutOfRange));
+        assert_eq!(precision((1 << 32) + 1), Err(TickOutOfRange));
+        assert_eq!(precision(u64::MAX), Err(TickOutOfRange));
     }
 }

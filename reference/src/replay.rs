@@ -1,144 +1,88 @@
-//! The replay program: one client, one frame a line.
+//! The replay: one client, one frame a line: docs/RULES.md, "Replay lines".
 
-use crate::client::{self, Arrival, Client, FRESH};
-use crate::lines::{answer_lines, MALFORMED};
-use crate::packet::get8;
+use crate::arrival::{Told, arrival};
+use crate::client::{Client, FRESH, ask, give_up};
+use crate::hex_lines::answer_lines;
+use crate::octets::{Reader, Short};
+use crate::packet::{LENGTH, LENGTH_WITH_AUTHENTICATOR};
+use crate::refusal::Refusal::{self, *};
 use std::io::{self, Read, Write};
 
-/// Longest frame: operation, uptime, clock, packet.
-const LONGEST: usize = 1 + 8 + 8 + 68;
+pub const ASK: u8 = 0xA1;
+pub const ARRIVAL: u8 = 0xA2;
+pub const GIVE_UP: u8 = 0xA3;
+/// Stands in place of the 00 where an arrival is a kiss.
+pub const KISS: u8 = 0xE0;
+/// The version that a replayed client asks by.
+pub const VERSION: u8 = 4;
+/// Octets before a packet: operation, uptime, clock.
+pub const BEFORE_PACKET: usize = 1 + 8 + 8;
+pub const LONGEST_PACKET: usize = LENGTH_WITH_AUTHENTICATOR;
 
-/// Answers one frame and changes the client.
-pub fn answer(client: &mut Client, frame: &[u8], out: &mut Vec<u8>) {
-    if frame.len() < 17 || frame.len() > LONGEST || (frame[0] != 0xA2 && frame.len() != 17) {
-        out.push(MALFORMED);
-        return;
+enum Frame<'a> {
+    Ask { uptime: u64, clock: u64 },
+    Arrival { clock: u64, packet: &'a [u8] },
+    GiveUp { uptime: u64 },
+}
+
+fn frame(line: &[u8]) -> Result<Frame<'_>, Refusal> {
+    let mut octets = Reader::new(line);
+    let mut head =
+        || -> Result<(u8, u64, u64), Short> { Ok((octets.u8()?, octets.u64()?, octets.u64()?)) };
+    let (operation, uptime, clock) = head().map_err(|Short| LineMalformed)?;
+    let packet = octets.rest();
+    match operation {
+        ASK if packet.is_empty() => Ok(Frame::Ask { uptime, clock }),
+        ARRIVAL if packet.len() <= LONGEST_PACKET => Ok(Frame::Arrival { clock, packet }),
+        GIVE_UP if packet.is_empty() => Ok(Frame::GiveUp { uptime }),
+        _ => Err(LineMalformed),
     }
-    let uptime = get8(&frame[1..9]);
-    let clock = get8(&frame[9..17]);
-    match frame[0] {
-        0xA1 => {
-            let mut buffer = [0u8; 48];
-            let (number, next) = client::ask(client, &mut buffer, 4, clock, uptime);
-            *client = next;
-            out.push(number);
-            if number == 0 {
-                out.extend_from_slice(&buffer);
-            }
+}
+
+fn put_told(told: &Told, out: &mut Vec<u8>) {
+    match told {
+        Told::Accepted(measured) => {
+            out.push(0);
+            measured.put(out);
         }
-        0xA2 => {
-            let (result, next) = client::arrival(client, &frame[17..], clock);
-            *client = next;
-            match result {
-                Arrival::Refused(number) => out.push(number),
-                Arrival::Accepted(m) => {
-                    out.push(0);
-                    out.extend_from_slice(&m.offset.to_be_bytes());
-                    out.push(m.half);
-                    out.extend_from_slice(&m.delay.to_be_bytes());
-                }
-                Arrival::Kiss { code, .. } => {
-                    out.push(0xE0);
-                    out.extend_from_slice(&code);
-                }
-            }
+        Told::Kiss { code, .. } => {
+            out.push(KISS);
+            out.extend(code);
         }
-        0xA3 => {
-            let (number, next) = client::give_up(client, uptime);
-            *client = next;
-            out.push(number);
+    }
+}
+
+fn call(client: &mut Client, line: &[u8], out: &mut Vec<u8>) -> Result<(), Refusal> {
+    match frame(line)? {
+        Frame::Ask { uptime, clock } => {
+            let mut packet = [0; LENGTH];
+            *client = ask(client, &mut packet, VERSION, clock, uptime)?;
+            out.push(0);
+            out.extend(packet);
         }
-        _ => out.push(MALFORMED),
+        Frame::Arrival { clock, packet } => {
+            let arrived = arrival(client, packet, clock)?;
+            *client = arrived.client;
+            put_told(&arrived.told, out);
+        }
+        Frame::GiveUp { uptime } => {
+            *client = give_up(client, uptime)?;
+            out.push(0);
+        }
+    }
+    Ok(())
+}
+
+/// Answers one line's octets and changes the client.
+pub fn answer(client: &mut Client, line: &[u8], out: &mut Vec<u8>) {
+    if let Err(refusal) = call(client, line, out) {
+        out.push(refusal.number());
     }
 }
 
 /// Answers a whole input.
-pub fn run<R: Read, W: Write>(input: R, output: W) -> io::Result<()> {
+pub fn run(input: impl Read, output: impl Write) -> io::Result<()> {
     let mut client = FRESH;
-    answer_lines(input, output, LONGEST, |frame, out| {
-        answer(&mut client, frame, out)
-    })
-}
-
-#[cfg(test)]
-mod tests {
-    use super::*;
-
-    fn replay(input: &[u8]) -> String {
-        let mut output = Vec::new();
-        run(input, &mut output).unwrap();
-        String::from_utf8(output).unwrap()
-    }
-
-    const CASE: &str = "\
-A10000000000000000FFFFFFFA00000000
-A20000000000000001FFFFFFFBC0000000240100EC0000000000000000475053000000000400000000FFFFFFFA0000000000000004800000000000000580000000
-A1000000000000003FFFFFFFFC00000000
-A30000000000000040FFFFFFFC00000000
-";
-    const ANSWERS: &str = "\
-0023000000000000000000000000000000000000000000000000000000000000000000000000000000FFFFFFFA00000000
-000000000A200000000000000000C0000000
-06
-08
-";
-
-    #[test]
-    fn whole_case() {
-        assert_eq!(replay(CASE.as_bytes()), ANSWERS);
-        assert_eq!(replay(CASE.to_lowercase().as_bytes()), ANSWERS);
-        assert_eq!(replay(CASE.trim_end().as_bytes()), ANSWERS);
-        assert_eq!(ANSWERS.lines().next().unwrap().len(), 98);
-    }
-
-    #[test]
-    fn line_ends() {
-        assert_eq!(replay(b""), "");
-        assert_eq!(replay(b"\n"), "40\n");
-        assert_eq!(replay(b"\n\n"), "40\n40\n");
-        assert_eq!(replay(b"A"), "40\n");
-        assert_eq!(replay(b"\r\n"), "40\n");
-        assert_eq!(replay(b"\0"), "40\n");
-        assert_eq!(replay(CASE.replace('\n', "\r\n").as_bytes()), "40\n".repeat(4));
-        assert_eq!(replay(b"A1000000000000000000000000000000010\n"), "40\n");
-        assert_eq!(replay(b"A1 0000000000000000000000000000001\n"), "40\n");
-        assert_eq!(replay(b"A4000000000000000000000000000000FF\n"), "40\n");
-        assert_eq!(replay(b"A1000000000000000000000000000000\n"), "40\n");
-        assert_eq!(replay(b"A100000000000000000000000000000001FF\n"), "40\n");
-    }
-
-    #[test]
-    fn packet_lengths() {
-        for n in 0..=80 {
-            let line = format!("A2{}{}\n", "00".repeat(16), "00".repeat(n));
-            let wanted = match n {
-                48 | 68 => "08\n",
-                0..=68 => "07\n",
-                _ => "40\n",
-            };
-            assert_eq!(replay(line.as_bytes()), wanted);
-        }
-    }
-
-    #[test]
-    fn long_lines_do_not_stop_it() {
-        let mut input = vec![b'A'; 1_000_001];
-        input.push(b'\n');
-        input.extend_from_slice(CASE.as_bytes());
-        assert_eq!(replay(&input), format!("40\n{ANSWERS}"));
-    }
-
-    #[test]
-    fn a_kiss_stops_the_client() {
-        let ask = "A1000000000000000000000000000000AA\n";
-        let mut packet = vec![0u8; 48];
-        packet[0] = 0x24;
-        packet[12..16].copy_from_slice(b"DENY");
-        packet[31] = 0xAA;
-        let digits: String = packet.iter().map(|o| format!("{o:02x}")).collect();
-        let input = format!("{ask}A2{}{digits}\n{ask}", "00".repeat(16));
-        let answers = replay(input.as_bytes());
-        let tail: Vec<&str> = answers.lines().skip(1).collect();
-        assert_eq!(tail, ["E044454E59", "04"]);
-    }
+    let longest = BEFORE_PACKET + LONGEST_PACKET;
+    answer_lines(input, output, longest, |line, out| answer(&mut client, line, out))
 }

@@ -1,7 +1,8 @@
-//! The server's reply.
+//! The server's reply: docs/RULES.md, "The server".
 
 use crate::packet::{self, Fields};
-use crate::time;
+use crate::refusal::Refusal::{self, *};
+use crate::timestamp;
 
 #[derive(Clone, Copy, PartialEq, Eq, Debug)]
 pub struct Settings {
@@ -12,49 +13,51 @@ pub struct Settings {
     pub reference: u64,
 }
 
-/// Writes the reply, or refuses by 1, 7, 21, 22, 23, 14, 17.
-pub fn reply(settings: &Settings, t2: u64, t3: u64, request: &[u8], buffer: &mut [u8]) -> u8 {
-    if buffer.len() < 48 {
-        return 1;
+/// Writes the reply to a request.
+pub fn reply(
+    settings: &Settings,
+    t2: u64,
+    t3: u64,
+    request: &[u8],
+    buffer: &mut [u8],
+) -> Result<(), Refusal> {
+    BufferTooShort.when(buffer.len() < packet::LENGTH)?;
+    let request = packet::read(request)?;
+    RequestModeWrong.when(request.mode != 3)?;
+    RequestVersionUnsupported.when(!(1..=4).contains(&request.version))?;
+    SettingsOutOfRange.when(settings.leap > 2 || !(-32..=0).contains(&settings.precision))?;
+    if settings.synchronised {
+        ServerTimestampZero.when(t2 == 0 || t3 == 0)?;
+        AnsweredBeforeReceived.when(timestamp::difference(t3, t2) < 0)?;
+        packet::write(&synchronised(settings, t2, t3, &request), buffer)
+    } else {
+        packet::write(&unsynchronised(settings, &request), buffer)
     }
-    let asked = match packet::read(request) {
-        Ok(fields) => fields,
-        Err(number) => return number,
-    };
-    if asked.mode != 3 {
-        return 21;
-    }
-    if asked.version < 1 || asked.version > 4 {
-        return 22;
-    }
-    if settings.leap > 2 || settings.precision < -32 || settings.precision > 0 {
-        return 23;
-    }
-    let mut fields = Fields {
+}
+
+fn unsynchronised(settings: &Settings, request: &Fields) -> Fields {
+    Fields {
         leap: 3,
-        version: asked.version,
+        version: request.version,
         mode: 4,
-        poll: asked.poll,
+        poll: request.poll,
         precision: settings.precision,
         identifier: *b"INIT",
-        originate: asked.transmit,
+        originate: request.transmit,
         ..Fields::default()
-    };
-    if settings.synchronised {
-        if t2 == 0 || t3 == 0 {
-            return 14;
-        }
-        if time::difference(t3, t2) < 0 {
-            return 17;
-        }
-        fields.leap = settings.leap;
-        fields.stratum = 1;
-        fields.identifier = settings.identifier;
-        fields.reference = settings.reference;
-        fields.receive = t2;
-        fields.transmit = t3;
     }
-    packet::write(&fields, buffer)
+}
+
+fn synchronised(settings: &Settings, t2: u64, t3: u64, request: &Fields) -> Fields {
+    Fields {
+        leap: settings.leap,
+        stratum: 1,
+        identifier: settings.identifier,
+        reference: settings.reference,
+        receive: t2,
+        transmit: t3,
+        ..unsynchronised(settings, request)
+    }
 }
 
 #[cfg(test)]
@@ -66,19 +69,20 @@ mod tests {
         leap: 1,
         precision: -20,
         identifier: *b"GPS\0",
-        reference: 0x0102030405060708,
+        reference: 0x0102_0304_0506_0708,
     };
+    const UNSYNCHRONISED: Settings = Settings { synchronised: false, ..SET };
 
     fn request(first: u8) -> [u8; 48] {
-        let mut octets = [0x11u8; 48];
+        let mut octets = [0x11; 48];
         octets[0] = first;
         octets
     }
 
     #[test]
-    fn octet_for_octet() {
-        let mut buffer = [0x77u8; 50];
-        assert_eq!(reply(&SET, 5, 6, &request(0xDB), &mut buffer), 0);
+    fn synchronised_octet_for_octet() {
+        let mut buffer = [0x77; 50];
+        assert_eq!(reply(&SET, 5, 6, &request(0xDB), &mut buffer), Ok(()));
         let mut wanted = vec![0x40 + 0x18 + 4, 1, 0x11, 0xEC];
         wanted.extend([0; 8]);
         wanted.extend(b"GPS\0");
@@ -87,9 +91,12 @@ mod tests {
         wanted.extend([0, 0, 0, 0, 0, 0, 0, 5, 0, 0, 0, 0, 0, 0, 0, 6]);
         wanted.extend([0x77; 2]);
         assert_eq!(buffer[..], wanted);
+    }
 
-        let off = Settings { synchronised: false, ..SET };
-        assert_eq!(reply(&off, 0, 0, &request(0x23), &mut buffer), 0);
+    #[test]
+    fn unsynchronised_octet_for_octet() {
+        let mut buffer = [0x77; 50];
+        assert_eq!(reply(&UNSYNCHRONISED, 0, 0, &request(0x23), &mut buffer), Ok(()));
         let mut wanted = vec![0xC0 + 0x20 + 4, 0, 0x11, 0xEC];
         wanted.extend([0; 8]);
         wanted.extend(b"INIT");
@@ -101,29 +108,34 @@ mod tests {
     }
 
     #[test]
-    fn numbers() {
-        let mut buffer = [0x77u8; 48];
+    fn order() {
+        let mut buffer = [0x77; 48];
         let bad = Settings { leap: 3, ..SET };
         let r = request(0x23);
-        assert_eq!(reply(&bad, 0, 0, &r[..47], &mut buffer[..47]), 1);
-        assert_eq!(reply(&bad, 0, 0, &r[..47], &mut buffer), 7);
-        assert_eq!(reply(&bad, 0, 0, &request(0x04), &mut buffer), 21);
-        assert_eq!(reply(&bad, 0, 0, &request(0x03), &mut buffer), 22);
-        assert_eq!(reply(&bad, 0, 0, &request(0x2B), &mut buffer), 22);
-        assert_eq!(reply(&bad, 0, 0, &r, &mut buffer), 23);
-        for precision in [-33, 1, -128, 127] {
-            let set = Settings { precision, synchronised: false, ..SET };
-            assert_eq!(reply(&set, 5, 6, &r, &mut buffer), 23);
-        }
-        let off = Settings { leap: 3, synchronised: false, ..SET };
-        assert_eq!(reply(&off, 5, 6, &r, &mut buffer), 23);
-        assert_eq!(reply(&SET, 0, 6, &r, &mut buffer), 14);
-        assert_eq!(reply(&SET, 5, 0, &r, &mut buffer), 14);
-        assert_eq!(reply(&SET, 6, 5, &r, &mut buffer), 17);
-        assert_eq!(buffer, [0x77u8; 48]);
-        for precision in [-32, 0] {
-            let set = Settings { precision, ..SET };
-            assert_eq!(reply(&set, 5, 5, &r, &mut buffer), 0);
+        assert_eq!(reply(&bad, 0, 0, &r[..47], &mut buffer[..47]), Err(BufferTooShort));
+        let mut number = |settings, t2, t3, request: &[u8]| {
+            reply(settings, t2, t3, request, &mut buffer).unwrap_err()
+        };
+        assert_eq!(number(&bad, 0, 0, &r[..47]), PacketLengthWrong);
+        assert_eq!(number(&bad, 0, 0, &request(0x04)), RequestModeWrong);
+        assert_eq!(number(&bad, 0, 0, &request(0x03)), RequestVersionUnsupported);
+        assert_eq!(number(&bad, 0, 0, &request(0x2B)), RequestVersionUnsupported);
+        assert_eq!(number(&bad, 0, 0, &r), SettingsOutOfRange);
+        let off = Settings { leap: 3, ..UNSYNCHRONISED };
+        assert_eq!(number(&off, 5, 6, &r), SettingsOutOfRange);
+        assert_eq!(number(&SET, 0, 6, &r), ServerTimestampZero);
+        assert_eq!(number(&SET, 5, 0, &r), ServerTimestampZero);
+        assert_eq!(number(&SET, 6, 5, &r), AnsweredBeforeReceived);
+        assert_eq!(buffer, [0x77; 48]);
+    }
+
+    #[test]
+    fn precisions() {
+        for precision in i8::MIN..=i8::MAX {
+            let set = Settings { precision, ..UNSYNCHRONISED };
+            let answered = reply(&set, 5, 5, &request(0x23), &mut [0; 48]);
+            let refused = !(-32..=0).contains(&precision);
+            assert_eq!(answered.err(), refused.then_some(SettingsOutOfRange));
         }
     }
 }

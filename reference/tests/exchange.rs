@@ -1,90 +1,108 @@
-//! The exchange of demand 3, run on many seeds: noise in between changes
-//! nothing, the reply is accepted, and the offset keeps its bound.
+//! The exchange of demand 3 on many seeds: calls in between change nothing, the reply is accepted,
+//! and the offset keeps its bound.
 
-use reference::client::{arrival, ask, give_up, Arrival, FRESH};
-use reference::material::{good_reply, put_packet, spoil};
+use reference::arrival::{Told, arrival};
+use reference::client::{Client, FRESH, ask, give_up};
+use reference::generate::faults::{Fault, add_fault};
+use reference::generate::packets::octets_of;
+use reference::generate::replies::good_reply;
 use reference::random::Random;
-use reference::server::{reply, Settings};
+use reference::refusal::Refusal::OriginateMismatch;
+use reference::server::{Settings, reply};
+
+/// No two clocks are this far apart.
+const FAR: i128 = (1 << 62) - (1 << 36);
+
+struct Exchange {
+    /// T1 to T4.
+    t: [u64; 4],
+    /// The server's constant minus the client's.
+    difference: i128,
+}
+
+fn any(r: &mut Random) -> i128 {
+    i128::from(r.number() as i64)
+}
+
+/// A time that passes, at times none.
+fn span(r: &mut Random, most: u64) -> i128 {
+    if r.one_in(4) { 0 } else { r.below(most).into() }
+}
+
+fn exchange(r: &mut Random) -> Exchange {
+    let sent = any(r);
+    let received = sent + span(r, 1 << 35);
+    let answered = received + span(r, 1 << 34);
+    let arrived = if r.one_in(8) { sent + (1 << 36) } else { answered + span(r, 1 << 34) };
+    let client = any(r);
+    let difference = match r.below(4) {
+        0 => FAR - 1,
+        1 => 1 - FAR,
+        _ => i128::from(r.below(2 * FAR as u64 - 1)) - FAR + 1,
+    };
+    let server = client + difference;
+    let t = [sent + client, received + server, answered + server, arrived + client];
+    Exchange { t: t.map(|reading| reading as u64), difference }
+}
+
+fn settings(r: &mut Random) -> Settings {
+    Settings {
+        synchronised: true,
+        leap: r.octet_below(3),
+        precision: -(r.octet_below(33) as i8),
+        identifier: *b"GPS\0",
+        reference: r.number(),
+    }
+}
+
+/// A call that the waiting client refuses.
+fn refused_call(r: &mut Random, waiting: &Client) {
+    match r.below(3) {
+        0 => {
+            let mut buffer = [7; 60];
+            assert!(ask(waiting, &mut buffer, 4, r.number(), r.number()).is_err());
+            assert_eq!(buffer, [7; 60]);
+        }
+        1 => assert!(give_up(waiting, r.below(waiting.uptime + 16)).is_err()),
+        _ => {
+            let t1 = waiting.transmit;
+            let mut other = good_reply(r, t1, waiting.version);
+            if r.one_in(2) {
+                add_fault(r, Fault::Kiss, t1, &mut other);
+            }
+            add_fault(r, Fault::By(OriginateMismatch), t1, &mut other);
+            let packet = octets_of(&other.fields);
+            assert_eq!(arrival(waiting, &packet, other.t4), Err(OriginateMismatch));
+        }
+    }
+}
+
+fn keeps_the_bound(r: &mut Random, exchange: &Exchange) {
+    let [t1, t2, t3, t4] = exchange.t;
+    let mut request = [0xEE; 48];
+    let version = 1 + r.octet_below(4);
+    let waiting = ask(&FRESH, &mut request, version, t1, r.below(1 << 40)).unwrap();
+    let mut answer = [0; 48];
+    reply(&settings(r), t2, t3, &request, &mut answer).unwrap();
+    for _ in 0..r.below(6) {
+        refused_call(r, &waiting);
+    }
+    match arrival(&waiting, &answer, t4).unwrap().told {
+        Told::Accepted(m) => {
+            let twice = 2 * i128::from(m.offset) + i128::from(m.half);
+            assert!((twice - 2 * exchange.difference).abs() <= i128::from(m.delay));
+        }
+        kiss => panic!("{kiss:?}"),
+    }
+}
 
 #[test]
 fn exchanges_keep_the_bound() {
     let mut r = Random::new(11);
-    let far = (1i128 << 62) - (1 << 36);
-    let mut done = 0;
     for _ in 0..60_000 {
-        // True times, and a constant for each clock.
-        let sent = r.next() as i64 as i128;
-        let spans = [r.below(1 << 35), r.below(1 << 34), r.below(1 << 34)];
-        let spans = spans.map(|s| if r.one_in(4) { 0 } else { s as i128 });
-        let received = sent + spans[0];
-        let answered = received + spans[1];
-        let arrived = if r.one_in(8) { sent + (1 << 36) } else { answered + spans[2] };
-        let client_constant = r.next() as i64 as i128;
-        let truth = match r.below(4) {
-            0 => far - 1,
-            1 => 1 - far,
-            _ => r.below(2 * far as u64 - 1) as i128 - far + 1,
-        };
-        let server_constant = client_constant + truth;
-        let t1 = (sent + client_constant) as u64;
-        let t2 = (received + server_constant) as u64;
-        let t3 = (answered + server_constant) as u64;
-        let t4 = (arrived + client_constant) as u64;
-        if [t1, t2, t3, t4].contains(&0) {
-            continue;
-        }
-        let version = 1 + r.below(4) as u8;
-        let uptime = r.below(1 << 40);
-        let mut request = [0xEEu8; 48];
-        let (number, waiting) = ask(&FRESH, &mut request, version, t1, uptime);
-        assert_eq!(number, 0);
-        let settings = Settings {
-            synchronised: true,
-            leap: r.below(3) as u8,
-            precision: -(r.below(33) as i8),
-            identifier: *b"GPS\0",
-            reference: r.next(),
-        };
-        let mut answer = [0u8; 48];
-        assert_eq!(reply(&settings, t2, t3, &request, &mut answer), 0);
-
-        let mut client = waiting;
-        for _ in 0..r.below(6) {
-            match r.below(3) {
-                0 => {
-                    let mut buffer = [7u8; 60];
-                    let (number, next) = ask(&client, &mut buffer, 4, r.next(), r.next());
-                    assert!(number != 0 && buffer == [7u8; 60]);
-                    client = next;
-                }
-                1 => {
-                    let (number, next) = give_up(&client, r.below(uptime + 16));
-                    assert!(number != 0);
-                    client = next;
-                }
-                _ => {
-                    let mut other = good_reply(&mut r, t1, version);
-                    if r.one_in(2) {
-                        spoil(&mut r, 0, t1, &mut other);
-                    }
-                    spoil(&mut r, 9, t1, &mut other);
-                    let mut packet = Vec::new();
-                    put_packet(&other.fields, &mut packet);
-                    let (result, next) = arrival(&client, &packet, other.t4);
-                    assert!(matches!(result, Arrival::Refused(n) if n != 0));
-                    client = next;
-                }
-            }
-            assert_eq!(client, waiting);
-        }
-        match arrival(&client, &answer, t4).0 {
-            Arrival::Accepted(m) => {
-                let twice = 2 * m.offset as i128 + m.half as i128;
-                assert!((twice - 2 * truth).abs() <= m.delay as i128);
-                done += 1;
-            }
-            other => panic!("{other:?}"),
+        let exchange = exchange(&mut r);
+        if !exchange.t.contains(&0) {
+            keeps_the_bound(&mut r, &exchange);
         }
     }
-    assert!(done > 59_000);
 }

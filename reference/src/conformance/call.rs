@@ -1,0 +1,226 @@
+//! A conformance line as a call with its arguments: read from the line's octets, and written.
+
+use super::records::*;
+use crate::calendar::Date;
+use crate::client::Client;
+use crate::octets::{Reader, Short};
+use crate::packet::Fields;
+use crate::server::Settings;
+
+/// Octets of the longest packet and of the longest buffer.
+pub const LONGEST: u8 = 80;
+/// Octets of the longest line, a reply to the longest packet.
+pub const LONGEST_LINE: usize = 1 + 32 + LONGEST as usize;
+
+/// A call with its arguments. `n` is the length of the buffer that is lent to it.
+#[derive(Clone, Copy, PartialEq, Eq, Debug)]
+pub enum Call<'a> {
+    Difference { x: u64, y: u64 },
+    Measure { t1: u64, t2: u64, t3: u64, t4: u64 },
+    ReadFields { packet: &'a [u8] },
+    WriteFields { n: u8, fields: Fields },
+    DateOfTimestamp { timestamp: u64 },
+    TimestampOfDate { date: Date },
+    Precision { tick: u64 },
+    Ask { client: Client, n: u8, version: u8, clock: u64, uptime: u64 },
+    Arrival { client: Client, t4: u64, packet: &'a [u8] },
+    GiveUp { client: Client, uptime: u64 },
+    Reply { settings: Settings, t2: u64, t3: u64, n: u8, request: &'a [u8] },
+    Entry { debt: i64, offset: i64, half: u8 },
+    Tick { debt: i64, limit: u64 },
+    Fresh,
+    Constants,
+    Halve { sum: i64 },
+}
+
+/// Why a line's octets are not a call.
+#[derive(Clone, Copy, PartialEq, Eq, Debug)]
+pub enum Malformed {
+    Empty,
+    Operation,
+    Length,
+    Phase,
+    Flag,
+    BufferLength,
+}
+
+impl From<Short> for Malformed {
+    fn from(_: Short) -> Malformed {
+        Malformed::Length
+    }
+}
+
+/// Shortest and longest rest of a line after its operation.
+pub fn lengths(operation: u8) -> Option<(usize, usize)> {
+    let longest = usize::from(LONGEST);
+    Some(match operation {
+        0x01 => (16, 16),
+        0x02 => (32, 32),
+        0x03 => (0, longest),
+        0x04 => (51, 51),
+        0x05 => (8, 8),
+        0x06 => (13, 13),
+        0x07 => (8, 8),
+        0x08 => (38, 38),
+        0x09 => (28, 28 + longest),
+        0x0A => (28, 28),
+        0x0B => (32, 32 + longest),
+        0x0C => (17, 17),
+        0x0D => (16, 16),
+        0xF0 | 0xF1 => (0, 0),
+        0xF2 => (8, 8),
+        _ => return None,
+    })
+}
+
+fn read_n(octets: &mut Reader) -> Result<u8, Malformed> {
+    match octets.u8()? {
+        n @ 0..=LONGEST => Ok(n),
+        _ => Err(Malformed::BufferLength),
+    }
+}
+
+fn read_ask<'a>(octets: &mut Reader<'a>) -> Result<Call<'a>, Malformed> {
+    Ok(Call::Ask {
+        client: read_client(octets)?,
+        n: read_n(octets)?,
+        version: octets.u8()?,
+        clock: octets.u64()?,
+        uptime: octets.u64()?,
+    })
+}
+
+fn read_reply<'a>(octets: &mut Reader<'a>) -> Result<Call<'a>, Malformed> {
+    Ok(Call::Reply {
+        settings: read_settings(octets)?,
+        t2: octets.u64()?,
+        t3: octets.u64()?,
+        n: read_n(octets)?,
+        request: octets.rest(),
+    })
+}
+
+/// The calls that have a record of the client or the server's settings.
+fn read_protocol_call<'a>(operation: u8, octets: &mut Reader<'a>) -> Result<Call<'a>, Malformed> {
+    Ok(match operation {
+        0x08 => read_ask(octets)?,
+        0x09 => {
+            Call::Arrival { client: read_client(octets)?, t4: octets.u64()?, packet: octets.rest() }
+        }
+        0x0A => Call::GiveUp { client: read_client(octets)?, uptime: octets.u64()? },
+        0x0B => read_reply(octets)?,
+        _ => return Err(Malformed::Operation),
+    })
+}
+
+fn read_call<'a>(operation: u8, octets: &mut Reader<'a>) -> Result<Call<'a>, Malformed> {
+    Ok(match operation {
+        0x01 => Call::Difference { x: octets.u64()?, y: octets.u64()? },
+        0x02 => Call::Measure {
+            t1: octets.u64()?,
+            t2: octets.u64()?,
+            t3: octets.u64()?,
+            t4: octets.u64()?,
+        },
+        0x03 => Call::ReadFields { packet: octets.rest() },
+        0x04 => Call::WriteFields { n: read_n(octets)?, fields: read_fields(octets)? },
+        0x05 => Call::DateOfTimestamp { timestamp: octets.u64()? },
+        0x06 => Call::TimestampOfDate { date: read_date(octets)? },
+        0x07 => Call::Precision { tick: octets.u64()? },
+        0x0C => Call::Entry { debt: octets.i64()?, offset: octets.i64()?, half: octets.u8()? },
+        0x0D => Call::Tick { debt: octets.i64()?, limit: octets.u64()? },
+        0xF0 => Call::Fresh,
+        0xF1 => Call::Constants,
+        0xF2 => Call::Halve { sum: octets.i64()? },
+        _ => return read_protocol_call(operation, octets),
+    })
+}
+
+impl<'a> Call<'a> {
+    pub fn parse(line: &'a [u8]) -> Result<Call<'a>, Malformed> {
+        let (&operation, rest) = line.split_first().ok_or(Malformed::Empty)?;
+        let (shortest, longest) = lengths(operation).ok_or(Malformed::Operation)?;
+        if !(shortest..=longest).contains(&rest.len()) {
+            return Err(Malformed::Length);
+        }
+        read_call(operation, &mut Reader::new(rest))
+    }
+
+    pub fn operation(&self) -> u8 {
+        match self {
+            Call::Difference { .. } => 0x01,
+            Call::Measure { .. } => 0x02,
+            Call::ReadFields { .. } => 0x03,
+            Call::WriteFields { .. } => 0x04,
+            Call::DateOfTimestamp { .. } => 0x05,
+            Call::TimestampOfDate { .. } => 0x06,
+            Call::Precision { .. } => 0x07,
+            Call::Ask { .. } => 0x08,
+            Call::Arrival { .. } => 0x09,
+            Call::GiveUp { .. } => 0x0A,
+            Call::Reply { .. } => 0x0B,
+            Call::Entry { .. } => 0x0C,
+            Call::Tick { .. } => 0x0D,
+            Call::Fresh => 0xF0,
+            Call::Constants => 0xF1,
+            Call::Halve { .. } => 0xF2,
+        }
+    }
+
+    /// Appends the line's octets.
+    pub fn put(&self, line: &mut Vec<u8>) {
+        line.push(self.operation());
+        match *self {
+            Call::Difference { x, y } => put_numbers([x, y], line),
+            Call::Measure { t1, t2, t3, t4 } => put_numbers([t1, t2, t3, t4], line),
+            Call::ReadFields { packet } => line.extend(packet),
+            Call::WriteFields { n, ref fields } => {
+                line.push(n);
+                put_fields(fields, line);
+            }
+            Call::DateOfTimestamp { timestamp } => put_numbers([timestamp], line),
+            Call::TimestampOfDate { ref date } => put_date(date, line),
+            Call::Precision { tick } => put_numbers([tick], line),
+            Call::Entry { debt, offset, half } => {
+                put_numbers([debt as u64, offset as u64], line);
+                line.push(half);
+            }
+            Call::Tick { debt, limit } => put_numbers([debt as u64, limit], line),
+            Call::Halve { sum } => put_numbers([sum as u64], line),
+            _ => self.put_protocol_call(line),
+        }
+    }
+
+    fn put_protocol_call(&self, line: &mut Vec<u8>) {
+        match *self {
+            Call::Ask { ref client, n, version, clock, uptime } => {
+                put_client(client, line);
+                line.extend([n, version]);
+                put_numbers([clock, uptime], line);
+            }
+            Call::Arrival { ref client, t4, packet } => {
+                put_client(client, line);
+                put_numbers([t4], line);
+                line.extend(packet);
+            }
+            Call::GiveUp { ref client, uptime } => {
+                put_client(client, line);
+                put_numbers([uptime], line);
+            }
+            Call::Reply { ref settings, t2, t3, n, request } => {
+                put_settings(settings, line);
+                put_numbers([t2, t3], line);
+                line.push(n);
+                line.extend(request);
+            }
+            _ => {}
+        }
+    }
+}
+
+/// Appends numbers of eight octets.
+pub fn put_numbers<const N: usize>(numbers: [u64; N], line: &mut Vec<u8>) {
+    for number in numbers {
+        line.extend(number.to_be_bytes());
+    }
+}

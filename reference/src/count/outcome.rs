@@ -1,0 +1,49 @@
+//! What came of a call.
+
+use crate::refusal::Refusal;
+use std::fmt::{Display, Formatter, Result};
+
+#[derive(Clone, Copy, PartialEq, Eq, PartialOrd, Ord, Debug)]
+pub enum Outcome {
+    /// Not refused, of every call but an arrival.
+    Done,
+    Refused(Refusal),
+    /// An arrival that was accepted.
+    Accepted,
+    /// An arrival that was a kiss, with its row.
+    Kiss(u8),
+}
+
+impl Outcome {
+    /// What the number of a call means.
+    pub fn of_number(number: u8) -> Option<Outcome> {
+        match number {
+            0 => Some(Outcome::Done),
+            _ => Refusal::of_number(number).map(Outcome::Refused),
+        }
+    }
+
+    pub fn by(self, refusal: Refusal) -> bool {
+        self == Outcome::Refused(refusal)
+    }
+
+    /// Whether all tests passed.
+    pub fn passed(self) -> bool {
+        matches!(self, Outcome::Done | Outcome::Accepted)
+    }
+
+    pub fn is_kiss(self) -> bool {
+        matches!(self, Outcome::Kiss(_))
+    }
+}
+
+impl Display for Outcome {
+    fn fmt(&self, out: &mut Formatter<'_>) -> Result {
+        match self {
+            Outcome::Done => write!(out, "00"),
+            Outcome::Refused(refusal) => write!(out, "{:02}", refusal.number()),
+            Outcome::Accepted => write!(out, "accepted"),
+            Outcome::Kiss(row) => write!(out, "kiss-{row:02}"),
+        }
+    }
+}

@@ -1,0 +1,105 @@
+//! Calls of the client.
+
+use super::faults::{Fault, add_fault};
+use super::packets::{alter, make_length_wrong, octets_of, put_authenticator};
+use super::plain_calls::buffer_length;
+use super::records::record;
+use super::replies::good_reply;
+use super::timestamps::{timestamp, uptime};
+use crate::client::Phase;
+use crate::conformance::call::{Call, LONGEST};
+use crate::random::Random;
+use crate::refusal::Refusal::*;
+
+fn version(r: &mut Random) -> u8 {
+    match r.below(10) {
+        0 => r.pick([0, 5, 6, 7, 8, 255]),
+        1 => r.octet(),
+        _ => 1 + r.octet_below(4),
+    }
+}
+
+/// An uptime about the end of the poll interval, which may have an illegal exponent.
+fn uptime_of_ask(r: &mut Random, last: u64, exponent: u8) -> u64 {
+    let interval = 1 << (exponent & 31);
+    let due = last.wrapping_add(interval);
+    match r.below(10) {
+        0 => due.wrapping_sub(1),
+        1 | 2 => due,
+        3 => due.wrapping_add(1),
+        4 => last.wrapping_sub(r.below(3)),
+        5 => due.wrapping_add(r.below(1 << 20)),
+        6 => last.wrapping_add(r.below(interval)),
+        7 => u64::MAX - r.below(3),
+        8 => uptime(r),
+        _ => due.saturating_add(r.below(1 << 40)),
+    }
+}
+
+pub fn ask(r: &mut Random, line: &mut Vec<u8>) {
+    let client = record(r, Phase::Idle);
+    let n = if r.one_in(2) { 48 } else { buffer_length(r) };
+    let version = version(r);
+    let clock = if r.one_in(16) { 0 } else { timestamp(r) };
+    let uptime = uptime_of_ask(r, client.uptime, client.exponent);
+    Call::Ask { client, n, version, clock, uptime }.put(line);
+}
+
+/// Kisses, the originate test and the last two tests occur more often.
+const FAULTS: [Fault; 21] = [
+    Fault::By(PacketLengthWrong),
+    Fault::By(OriginateMismatch),
+    Fault::By(OriginateMismatch),
+    Fault::By(ReplyModeWrong),
+    Fault::By(VersionMismatch),
+    Fault::Kiss,
+    Fault::Kiss,
+    Fault::Kiss,
+    Fault::By(OwnClockZero),
+    Fault::By(ServerUnsynchronised),
+    Fault::By(StratumTooHigh),
+    Fault::By(ServerTimestampZero),
+    Fault::By(RootDelayOutOfRange),
+    Fault::By(RootDispersionTooLarge),
+    Fault::By(ArrivedBeforeSent),
+    Fault::By(ArrivedTooLate),
+    Fault::By(AnsweredBeforeReceived),
+    Fault::By(DelayNegative),
+    Fault::By(DelayNegative),
+    Fault::By(DifferenceOutOfRange),
+    Fault::By(DifferenceOutOfRange),
+];
+
+pub fn arrival(r: &mut Random, line: &mut Vec<u8>) {
+    let client = record(r, Phase::Waiting);
+    let mut reply = good_reply(r, client.transmit, client.version);
+    let mut length_wrong = false;
+    for _ in 0..r.pick([0, 0, 1, 1, 1, 1, 1, 2, 2, 3]) {
+        let fault = r.pick(FAULTS);
+        length_wrong |= fault == Fault::By(PacketLengthWrong);
+        add_fault(r, fault, client.transmit, &mut reply);
+    }
+    let mut packet = octets_of(&reply.fields);
+    if r.one_in(5) {
+        put_authenticator(r, &mut packet);
+    }
+    alter(r, 24, &mut packet);
+    if length_wrong {
+        make_length_wrong(r, LONGEST.into(), &mut packet);
+    }
+    Call::Arrival { client, t4: reply.t4, packet: &packet }.put(line);
+}
+
+pub fn give_up(r: &mut Random, line: &mut Vec<u8>) {
+    let client = record(r, Phase::Waiting);
+    let uptime = match r.below(8) {
+        0 => client.uptime.wrapping_add(15),
+        1 | 2 => client.uptime.wrapping_add(16),
+        3 => client.uptime.wrapping_add(17),
+        4 => client.uptime.wrapping_add(r.below(32)),
+        5 => client.uptime.wrapping_sub(r.below(3)),
+        6 => client.uptime.saturating_add(r.below(1 << 40)),
+        _ => uptime(r),
+    };
+    Call::GiveUp { client, uptime }.put(line);
+}

@@ -1,0 +1,64 @@
+//! The fixed lines that every conformance stream begins with: the figures of the rules, each
+//! length, each kiss row, both sides of each limit, and each kind of malformed line.
+
+mod calendar;
+mod exchanges;
+mod ledger;
+mod malformed;
+mod timestamps;
+
+use crate::conformance::call::Call;
+use crate::hex_lines::put_hex;
+
+/// One second, which the figures of the rules take as T1.
+const T: u64 = 1 << 32;
+
+/// Lines as text, without line feeds.
+struct Lines(Vec<Vec<u8>>);
+
+impl Lines {
+    fn call(&mut self, call: Call) {
+        let mut line = Vec::new();
+        call.put(&mut line);
+        self.octets(&line);
+    }
+
+    fn calls<'a>(&mut self, calls: impl IntoIterator<Item = Call<'a>>) {
+        calls.into_iter().for_each(|call| self.call(call));
+    }
+
+    fn octets(&mut self, octets: &[u8]) {
+        let mut text = Vec::new();
+        put_hex(octets, &mut text);
+        self.text(&text);
+    }
+
+    fn text(&mut self, text: &[u8]) {
+        self.0.push(text.to_vec());
+    }
+}
+
+/// Every pair of a value of the first list and one of the second.
+fn pairs<A: Copy, B: Copy>(first: &[A], second: &[B]) -> impl Iterator<Item = (A, B)> {
+    first.iter().flat_map(move |&a| second.iter().map(move |&b| (a, b)))
+}
+
+pub fn lines() -> Vec<Vec<u8>> {
+    let mut lines = Lines(Vec::new());
+    timestamps::put_lines(&mut lines);
+    calendar::put_lines(&mut lines);
+    timestamps::put_ticks(&mut lines);
+    exchanges::put_lines(&mut lines);
+    ledger::put_lines(&mut lines);
+    malformed::put_lines(&mut lines);
+    lines.0
+}
+
+#[cfg(test)]
+mod tests {
+    #[test]
+    fn there_are_enough() {
+        let count = super::lines().len();
+        assert!((1200..1500).contains(&count), "{count}");
+    }
+}

@@ -1,0 +1,123 @@
+//! Fixed lines of packets, the client and the server.
+
+use super::{Lines, T};
+use crate::client::{Client, FRESH, Phase};
+use crate::conformance::call::{Call, LONGEST};
+use crate::generate::packets::octets_of;
+use crate::kiss::CODES;
+use crate::packet::Fields;
+use crate::server::Settings;
+
+/// A waiting client that sent at the clock.
+pub fn waiting(clock: u64) -> Client {
+    Client { phase: Phase::Waiting, transmit: clock, version: 4, asked: true, ..FRESH }
+}
+
+/// A plain reply.
+pub fn reply(t1: u64, t2: u64, t3: u64) -> Fields {
+    Fields {
+        version: 4,
+        mode: 4,
+        stratum: 1,
+        precision: -20,
+        identifier: *b"GPS\0",
+        originate: t1,
+        receive: t2,
+        transmit: t3,
+        ..Fields::default()
+    }
+}
+
+/// The fields' octets, cut or lengthened.
+fn packet(fields: &Fields, length: u8, fill: u8) -> Vec<u8> {
+    let mut octets = octets_of(fields);
+    octets.resize(length.into(), fill);
+    octets
+}
+
+pub fn arrival(lines: &mut Lines, client: &Client, t4: u64, fields: &Fields, length: u8) {
+    lines.call(Call::Arrival { client: *client, t4, packet: &packet(fields, length, 0xAB) });
+}
+
+fn server_reply(lines: &mut Lines, n: u8, length: u8) {
+    let settings = Settings {
+        synchronised: true,
+        leap: 0,
+        precision: -20,
+        identifier: *b"GPS\0",
+        reference: 3 * T,
+    };
+    let request = Fields { version: 4, mode: 3, transmit: T, ..Fields::default() };
+    let request = packet(&request, length, 0xEF);
+    lines.call(Call::Reply { settings, t2: 5 * T, t3: 6 * T, n, request: &request });
+}
+
+/// Every buffer length and every packet length.
+fn put_lengths(lines: &mut Lines) {
+    let good = reply(T, T, T);
+    for n in 0..=LONGEST {
+        lines.call(Call::ReadFields { packet: &packet(&good, n, 0xCD) });
+        lines.call(Call::WriteFields { n, fields: good });
+        lines.call(Call::Ask { client: FRESH, n, version: 4, clock: T, uptime: 7 });
+        arrival(lines, &waiting(T), T, &good, n);
+        server_reply(lines, n, 48);
+        server_reply(lines, LONGEST, n);
+    }
+}
+
+fn put_kisses(lines: &mut Lines) {
+    for identifier in [*b"XXXX", *b"deny"].into_iter().chain(CODES) {
+        let kiss = Fields { stratum: 0, leap: 3, identifier, ..reply(T, 0, 0) };
+        arrival(lines, &waiting(T), T, &kiss, 48);
+    }
+}
+
+/// Asks and give-ups about the time that they are due, with each exponent.
+fn put_uptimes(lines: &mut Lines) {
+    for exponent in 6..=14 {
+        let client = Client { asked: true, uptime: 1000, exponent, ..FRESH };
+        let due = 1000 + (1 << exponent);
+        let ask = |uptime| Call::Ask { client, n: 48, version: 4, clock: T, uptime };
+        lines.calls([999, due - 1, due, due + 1].map(ask));
+        let client = Client { uptime: 1000, exponent, ..waiting(T) };
+        lines.calls([999, 1015, 1016, 1017].map(|uptime| Call::GiveUp { client, uptime }));
+    }
+}
+
+/// Root delay and root dispersion on both sides of their limits.
+fn put_roots(lines: &mut Lines) {
+    let good = reply(T, T, T);
+    let delays = [-1, 0, 1, 65535, 65536, i32::MIN, i32::MAX]
+        .map(|root_delay| Fields { root_delay, ..good });
+    let dispersions = [0, 1, 65535, 65536, (1 << 31) - 1, 1 << 31, u32::MAX]
+        .map(|root_dispersion| Fields { root_dispersion, ..good });
+    for fields in delays.into_iter().chain(dispersions) {
+        arrival(lines, &waiting(T), T, &fields, 48);
+    }
+}
+
+/// A root field out of range with another fault besides, and a kiss all the same.
+fn put_roots_with_other_faults(lines: &mut Lines) {
+    let far = T + (1 << 62);
+    let bad_delay = Fields { root_delay: -1, ..reply(T, T, T) };
+    let bad_dispersion = Fields { root_dispersion: u32::MAX, ..reply(T, T, T) };
+    let mut put = |t4, fields| arrival(lines, &waiting(T), t4, &fields, 48);
+    for fields in [bad_delay, bad_dispersion] {
+        put(T, Fields { stratum: 0, identifier: *b"RATE", ..fields });
+        put(T, Fields { stratum: 16, ..fields });
+        put(T, Fields { receive: 0, ..fields });
+        put(T, Fields { transmit: 0, ..fields });
+        put(T - 1, fields);
+        put(T, Fields { receive: far, transmit: far, ..fields });
+    }
+    put(T, Fields { root_dispersion: u32::MAX, ..bad_delay });
+}
+
+pub fn put_lines(lines: &mut Lines) {
+    put_lengths(lines);
+    put_kisses(lines);
+    put_uptimes(lines);
+    lines.calls([Call::Fresh, Call::Constants]);
+    put_roots(lines);
+    put_roots_with_other_faults(lines);
+}

@@ -1,0 +1,142 @@
+//! Calls on timestamps, packet fields and ticks.
+
+use super::faults::{Fault, add_fault};
+use super::packets::{identifier, make_length_wrong, octets_of, put_any, put_authenticator};
+use super::replies::good_reply;
+use super::timestamps::{around, timestamp};
+use crate::conformance::call::{Call, LONGEST};
+use crate::packet::{Fields, LENGTH};
+use crate::random::Random;
+use crate::refusal::Refusal::*;
+
+pub fn difference(r: &mut Random, line: &mut Vec<u8>) {
+    let x = timestamp(r);
+    let y = match r.below(4) {
+        0 => around(r, x),
+        1 => around(r, x ^ (1 << 63)),
+        _ => timestamp(r),
+    };
+    Call::Difference { x, y }.put(line);
+}
+
+pub fn measure(r: &mut Random, line: &mut Vec<u8>) {
+    let t1 = timestamp(r);
+    let mut reply = good_reply(r, t1, 4);
+    for _ in 0..r.pick([0, 0, 1, 1, 1, 2]) {
+        let refusal = r.pick([
+            ArrivedBeforeSent,
+            ArrivedTooLate,
+            AnsweredBeforeReceived,
+            DelayNegative,
+            DifferenceOutOfRange,
+        ]);
+        add_fault(r, Fault::By(refusal), t1, &mut reply);
+    }
+    if r.one_in(16) {
+        reply.t4 = timestamp(r);
+    }
+    if r.one_in(16) {
+        reply.fields.receive = timestamp(r);
+        reply.fields.transmit = timestamp(r);
+    }
+    let (t2, t3) = (reply.fields.receive, reply.fields.transmit);
+    Call::Measure { t1, t2, t3, t4: reply.t4 }.put(line);
+}
+
+pub fn halve(r: &mut Random, line: &mut Vec<u8>) {
+    let sum = match r.below(3) {
+        0 => r.below(8) as i64 - 4,
+        1 => i64::MIN.wrapping_add(r.below(8) as i64).wrapping_sub(4),
+        _ => timestamp(r) as i64,
+    };
+    Call::Halve { sum }.put(line);
+}
+
+/// Fields with any values that fit their bits.
+pub fn any_fields(r: &mut Random) -> Fields {
+    Fields {
+        leap: r.octet_below(4),
+        version: r.octet_below(8),
+        mode: r.octet_below(8),
+        stratum: r.octet(),
+        poll: r.octet(),
+        precision: r.octet() as i8,
+        root_delay: if r.one_in(4) {
+            r.pick([0, -1, i32::MIN, i32::MAX])
+        } else {
+            r.number() as i32
+        },
+        root_dispersion: if r.one_in(4) { r.pick([0, u32::MAX]) } else { r.number() as u32 },
+        identifier: identifier(r),
+        reference: timestamp(r),
+        originate: timestamp(r),
+        receive: timestamp(r),
+        transmit: timestamp(r),
+    }
+}
+
+pub fn read_fields(r: &mut Random, line: &mut Vec<u8>) {
+    let mut packet = Vec::new();
+    if r.one_in(8) {
+        put_any(r, LENGTH, &mut packet);
+    } else {
+        packet = octets_of(&any_fields(r));
+    }
+    match r.below(4) {
+        0 => put_authenticator(r, &mut packet),
+        1 => make_length_wrong(r, LONGEST.into(), &mut packet),
+        _ => {}
+    }
+    Call::ReadFields { packet: &packet }.put(line);
+}
+
+/// A value over the largest one, the next often.
+fn over(r: &mut Random, largest: u8) -> u8 {
+    if r.one_in(2) { largest + 1 } else { largest + 1 + r.octet_below(255 - largest) }
+}
+
+pub fn write_fields(r: &mut Random, line: &mut Vec<u8>) {
+    let n = buffer_length(r);
+    let mut fields = any_fields(r);
+    if r.one_in(4) {
+        let which = 1 + r.below(7);
+        if which & 1 != 0 {
+            fields.leap = over(r, 3);
+        }
+        if which & 2 != 0 {
+            fields.version = over(r, 7);
+        }
+        if which & 4 != 0 {
+            fields.mode = over(r, 7);
+        }
+    }
+    Call::WriteFields { n, fields }.put(line);
+}
+
+/// The length of a lent buffer, those about 48 often.
+pub fn buffer_length(r: &mut Random) -> u8 {
+    match r.below(8) {
+        0 => 47,
+        1..=3 => 48,
+        4 => 48 + r.octet_below(LONGEST - 47),
+        5 => r.octet_below(48),
+        _ => r.octet_below(LONGEST + 1),
+    }
+}
+
+pub fn precision(r: &mut Random, line: &mut Vec<u8>) {
+    let tick = match r.below(8) {
+        0 => r.pick([0, 1, 2, 1 << 32, (1 << 32) + 1, u64::MAX, 4095, 4096, 4097, 4295]),
+        1..=3 => {
+            let power = 1 << r.below(34);
+            around(r, power)
+        }
+        4 => 1 + r.below(1 << 32),
+        5 => r.number(),
+        _ => {
+            let bits = 31 + r.below(33);
+            r.number() >> bits
+        }
+    };
+    Call::Precision { tick }.put(line);
+}

@@ -1,0 +1,325 @@
+//! A replay stream: one client with a long life.
+
+use super::faults::{Fault, add_fault};
+use super::packets::{kiss_code, make_length_wrong, octets_of, put_any, put_authenticator};
+use super::replies::good_reply;
+use super::text::put_drawn;
+use super::timestamps::{nonzero_timestamp, today};
+use super::write_lines;
+use crate::client::{Client, FRESH, Phase};
+use crate::kiss;
+use crate::random::Random;
+use crate::refusal::Refusal::*;
+use crate::replay::{self, ARRIVAL, ASK, BEFORE_PACKET, GIVE_UP, LONGEST_PACKET, VERSION};
+use std::io::{self, Write};
+
+/// Each kind of malformed line occurs once in so many.
+const RARE: u64 = 60;
+
+/// How the stream ends.
+#[derive(Clone, Copy, PartialEq)]
+enum End {
+    Plain,
+    /// With a kiss of this row.
+    Kiss(u8),
+    LateUptime,
+}
+
+/// Sixteen seeds in a row give each kiss row once, and one stream without.
+fn end_of(seed: u64) -> End {
+    match seed % 16 {
+        15 if (seed / 16).is_multiple_of(2) => End::LateUptime,
+        15 => End::Plain,
+        row => End::Kiss(row as u8),
+    }
+}
+
+struct Gateway {
+    client: Client,
+    /// The gateway's uptime so far.
+    uptime: u64,
+    /// What its clock shows at uptime zero.
+    base: u64,
+    /// Frames to be refused before the request is settled.
+    refused_frames: u64,
+    /// Requests in a row that are still to get no reply.
+    without_reply: u64,
+    /// Whether the request at hand is given up.
+    give_up: bool,
+}
+
+fn put_frame(operation: u8, uptime: u64, clock: u64, line: &mut Vec<u8>) {
+    line.push(operation);
+    line.extend(uptime.to_be_bytes());
+    line.extend(clock.to_be_bytes());
+}
+
+fn put_give_up(r: &mut Random, uptime: u64, line: &mut Vec<u8>) {
+    let clock = if r.one_in(2) { 0 } else { r.number() };
+    put_frame(GIVE_UP, uptime, clock, line);
+}
+
+const FAULTS: [Fault; 17] = [
+    Fault::By(OwnClockZero),
+    Fault::By(PacketLengthWrong),
+    Fault::By(OriginateMismatch),
+    Fault::By(OriginateMismatch),
+    Fault::By(ReplyModeWrong),
+    Fault::By(VersionMismatch),
+    Fault::By(ServerUnsynchronised),
+    Fault::By(StratumTooHigh),
+    Fault::By(ServerTimestampZero),
+    Fault::By(RootDelayOutOfRange),
+    Fault::By(RootDispersionTooLarge),
+    Fault::By(ArrivedBeforeSent),
+    Fault::By(ArrivedTooLate),
+    Fault::By(AnsweredBeforeReceived),
+    Fault::By(DelayNegative),
+    Fault::By(DelayNegative),
+    Fault::By(DifferenceOutOfRange),
+];
+
+impl Gateway {
+    fn clock(&self, r: &mut Random) -> u64 {
+        let fraction = r.below(1 << 32);
+        self.base.wrapping_add(self.uptime << 32).wrapping_add(fraction).max(1)
+    }
+
+    fn ask(&self, r: &mut Random, uptime: u64, line: &mut Vec<u8>) {
+        let clock = match r.below(20) {
+            0 => 0,
+            1 => nonzero_timestamp(r),
+            _ => self.clock(r),
+        };
+        put_frame(ASK, uptime, clock, line);
+    }
+
+    /// An arrival of a reply that has each fault of the list.
+    fn arrival(&self, r: &mut Random, faults: &[Fault], line: &mut Vec<u8>) {
+        let t1 = self.client.transmit;
+        let mut reply = good_reply(r, t1, VERSION);
+        for &fault in faults {
+            add_fault(r, fault, t1, &mut reply);
+        }
+        let uptime = if r.one_in(8) { r.number() } else { self.uptime };
+        put_frame(ARRIVAL, uptime, reply.t4, line);
+        let mut packet = octets_of(&reply.fields);
+        if r.one_in(6) {
+            put_authenticator(r, &mut packet);
+        }
+        if faults.contains(&Fault::By(PacketLengthWrong)) {
+            make_length_wrong(r, LONGEST_PACKET, &mut packet);
+        }
+        line.extend(packet);
+    }
+
+    /// A kiss of a row; row 0 takes a code that is not listed.
+    fn kiss(&self, r: &mut Random, row: u8, line: &mut Vec<u8>) {
+        self.arrival(r, &[Fault::Kiss], line);
+        let mut code = kiss_code(r);
+        while kiss::row(code) != row {
+            code = kiss_code(r);
+        }
+        let identifier = line.get_mut(BEFORE_PACKET + 12..).and_then(<[u8]>::first_chunk_mut);
+        if let Some(octets) = identifier {
+            *octets = code;
+        }
+    }
+
+    /// An arrival that is refused, or a stranger's kiss.
+    fn refused_arrival(&self, r: &mut Random, line: &mut Vec<u8>) {
+        let first = r.pick(FAULTS);
+        if r.one_in(10) {
+            self.arrival(r, &[Fault::Kiss, Fault::By(OriginateMismatch)], line);
+        } else if r.one_in(4) {
+            let second = r.pick(FAULTS);
+            self.arrival(r, &[first, second], line);
+        } else {
+            self.arrival(r, &[first], line);
+        }
+    }
+
+    /// Draws how the request just sent will go.
+    fn plan(&mut self, r: &mut Random) {
+        self.refused_frames = match r.below(4) {
+            0 => 0,
+            1 => r.below(3),
+            2 => r.below(8),
+            _ => r.below(20),
+        };
+        if self.without_reply == 0 && r.one_in(40) {
+            self.without_reply = 1 + r.below(14);
+        }
+        self.give_up = self.without_reply > 0 || r.one_in(10);
+        self.without_reply = self.without_reply.saturating_sub(1);
+    }
+
+    fn idle(&mut self, r: &mut Random, line: &mut Vec<u8>) {
+        let last = self.client.uptime;
+        let interval = 1 << self.client.exponent;
+        let due = last.saturating_add(if self.client.asked { interval } else { 0 });
+        match r.below(20) {
+            0 => {
+                let early = if r.one_in(2) { 1 } else { 1 + r.below(interval) };
+                self.ask(r, due.saturating_sub(early), line);
+            }
+            1 => {
+                let back = if r.one_in(2) { 1 } else { r.below(1 << 20) };
+                self.ask(r, last.saturating_sub(back), line);
+            }
+            2 => put_frame(ASK, due, 0, line),
+            3 => self.refused_arrival(r, line),
+            4 => {
+                let uptime = r.number();
+                put_give_up(r, uptime, line);
+            }
+            _ => self.ask_in_time(r, due, line),
+        }
+    }
+
+    fn ask_in_time(&mut self, r: &mut Random, due: u64, line: &mut Vec<u8>) {
+        let more = match r.below(4) {
+            0 | 1 => 0,
+            2 => r.below(4),
+            _ => r.below(200),
+        };
+        let late = due.max(self.uptime).saturating_add(more);
+        self.uptime = if r.one_in(3) { due } else { late };
+        self.ask(r, self.uptime, line);
+    }
+
+    fn waiting(&mut self, r: &mut Random, line: &mut Vec<u8>) {
+        let sent = self.client.uptime;
+        if self.refused_frames > 0 {
+            self.refused_frames -= 1;
+            self.refused_while_waiting(r, line);
+        } else if self.give_up {
+            let more = if r.one_in(2) { 16 } else { 16 + r.below(40) };
+            let uptime = sent.saturating_add(more);
+            self.uptime = self.uptime.max(uptime);
+            put_give_up(r, uptime, line);
+        } else {
+            self.arrival(r, &[], line);
+        }
+    }
+
+    fn refused_while_waiting(&self, r: &mut Random, line: &mut Vec<u8>) {
+        let sent = self.client.uptime;
+        match r.below(10) {
+            0 => {
+                let uptime = sent.saturating_add(r.below(1 << 16));
+                self.ask(r, uptime, line);
+            }
+            1 => put_give_up(r, sent.saturating_add(15), line),
+            2 => {
+                let uptime = match r.below(2) {
+                    0 => sent.saturating_add(r.below(16)),
+                    _ => sent.saturating_sub(1 + r.below(100)),
+                };
+                put_give_up(r, uptime, line);
+            }
+            _ => self.refused_arrival(r, line),
+        }
+    }
+
+    fn stopped(&mut self, r: &mut Random, line: &mut Vec<u8>) {
+        match r.below(4) {
+            0 => self.refused_arrival(r, line),
+            1 => put_give_up(r, self.uptime, line),
+            _ => {
+                self.uptime = self.uptime.saturating_add(r.below(100));
+                self.ask(r, self.uptime, line);
+            }
+        }
+    }
+
+    /// Octets that are no frame.
+    fn no_frame(&self, r: &mut Random, line: &mut Vec<u8>) {
+        line.clear();
+        match r.below(6) {
+            0 => self.frame_of(r, [0xA0, 0xA4, 0x00, 0xFF, 0x1A, 0xE0, 0xB1], line),
+            1 => {
+                self.frame_of(r, [ASK, ARRIVAL, GIVE_UP], line);
+                let keep = if r.one_in(2) { 16 } else { 1 + r.below(16) };
+                line.truncate(keep as usize);
+            }
+            2 => {
+                self.frame_of(r, [ASK, GIVE_UP], line);
+                let more = r.pick([1, 2, 48, 68]);
+                put_any(r, more, line);
+            }
+            3 | 4 => {
+                // A packet that is too long, though a true reply.
+                self.arrival(r, &[], line);
+                let length = r.pick([69, 70, 80, 88, 300]);
+                put_any(r, BEFORE_PACKET + length - line.len(), line);
+            }
+            _ => {
+                let length = 1 + r.below(40) as usize;
+                line.push(0x00);
+                put_any(r, length, line);
+            }
+        }
+    }
+
+    fn frame_of<const N: usize>(&self, r: &mut Random, operations: [u8; N], line: &mut Vec<u8>) {
+        let operation = r.pick(operations);
+        put_frame(operation, self.uptime, self.clock(r), line);
+    }
+
+    /// The frame that suits the client; `late` where the stream's end is near.
+    fn next_frame(&mut self, r: &mut Random, end: End, late: bool, line: &mut Vec<u8>) {
+        line.clear();
+        match (self.client.phase, end) {
+            (Phase::Waiting, End::Kiss(row)) if late => self.kiss(r, row, line),
+            (Phase::Waiting, _) => self.waiting(r, line),
+            (Phase::Idle, _) => self.idle(r, line),
+            (Phase::Stopped, _) => self.stopped(r, line),
+        }
+    }
+
+    /// Follows the client, so that the next frame suits it.
+    fn follow(&mut self, r: &mut Random, line: &[u8]) {
+        let before = self.client.phase;
+        replay::answer(&mut self.client, line, &mut Vec::new());
+        if before != Phase::Waiting && self.client.phase == Phase::Waiting {
+            self.plan(r);
+        }
+    }
+}
+
+/// What the clock shows at uptime zero: half of the streams pass the wrap of 2036 in their middle.
+fn base(r: &mut Random, count: u64) -> u64 {
+    match r.below(4) {
+        0 | 1 => 0u64.wrapping_sub((count * 8) << 32),
+        2 => today(r),
+        _ => r.number(),
+    }
+}
+
+/// Writes so many frames; `open` leaves the last line feed off.
+pub fn run(count: u64, seed: u64, open: bool, output: impl Write) -> io::Result<()> {
+    let mut r = Random::new(seed ^ 0x5EED_0F4E_B1A7);
+    let end = end_of(seed);
+    let tail = (count / 50).clamp(1, 400);
+    let base = base(&mut r, count);
+    let mut gateway = Gateway {
+        client: FRESH,
+        uptime: 0,
+        base,
+        refused_frames: 0,
+        without_reply: 0,
+        give_up: false,
+    };
+    let mut line = Vec::new();
+    write_lines(count, open, output, |place, text| {
+        let left = count - place;
+        if left == tail && end == End::LateUptime {
+            gateway.uptime = u64::MAX - r.below(200);
+        }
+        gateway.next_frame(&mut r, end, left <= tail, &mut line);
+        let no_frame = |r: &mut Random, line: &mut Vec<u8>| gateway.no_frame(r, line);
+        put_drawn(&mut r, RARE, &mut line, no_frame, text);
+        gateway.follow(&mut r, &line);
+    })
+}

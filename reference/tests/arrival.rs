@@ -1,0 +1,162 @@
+//! Each test of an arrival on both sides, and the order of the tests.
+
+use reference::arrival::{Told, arrival};
+use reference::client::{Client, FRESH, Phase};
+use reference::kiss::CODES;
+use reference::packet::{self, Fields};
+use reference::refusal::Refusal::{self, *};
+
+const T: u64 = 1 << 32;
+
+const WAITING: Client =
+    Client { phase: Phase::Waiting, transmit: T, version: 4, asked: true, uptime: 100, ..FRESH };
+
+const GOOD: Fields = Fields {
+    leap: 0,
+    version: 4,
+    mode: 4,
+    stratum: 1,
+    poll: 0,
+    precision: 0,
+    root_delay: 0,
+    root_dispersion: 0,
+    identifier: [0; 4],
+    reference: 0,
+    originate: T,
+    receive: T,
+    transmit: T,
+};
+
+/// Both root fields out of range.
+const BAD_ROOTS: Fields = Fields { root_delay: -1, root_dispersion: u32::MAX, ..GOOD };
+
+#[derive(PartialEq, Debug)]
+enum Outcome {
+    Refused(Refusal),
+    Accepted,
+    Kiss(u8),
+}
+use Outcome::*;
+
+/// The arrival of a packet with these fields; the record after it is looked at too.
+fn outcome(fields: Fields, t4: u64) -> Outcome {
+    let mut octets = [0; 48];
+    packet::write(&fields, &mut octets).unwrap();
+    let idle = Client { asked: true, uptime: 100, ..FRESH };
+    match arrival(&WAITING, &octets, t4) {
+        Err(refusal) => Refused(refusal),
+        Ok(arrived) => match arrived.told {
+            Told::Accepted(_) => {
+                assert_eq!(arrived.client, idle);
+                Accepted
+            }
+            Told::Kiss { code, row } => {
+                assert_eq!(arrived.client, Client { phase: Phase::Stopped, ..idle });
+                assert_eq!(code, fields.identifier);
+                Kiss(row)
+            }
+        },
+    }
+}
+
+#[test]
+fn fields() {
+    assert_eq!(outcome(GOOD, T), Accepted);
+    assert_eq!(outcome(Fields { originate: T + 1, ..GOOD }, T), Refused(OriginateMismatch));
+    assert_eq!(outcome(Fields { mode: 3, ..GOOD }, T), Refused(ReplyModeWrong));
+    assert_eq!(outcome(Fields { version: 3, ..GOOD }, T), Refused(VersionMismatch));
+    assert_eq!(outcome(Fields { stratum: 0, ..GOOD }, 0), Kiss(0));
+    assert_eq!(outcome(GOOD, 0), Refused(OwnClockZero));
+    assert_eq!(outcome(Fields { leap: 2, ..GOOD }, T), Accepted);
+    assert_eq!(outcome(Fields { leap: 3, ..GOOD }, T), Refused(ServerUnsynchronised));
+    assert_eq!(outcome(Fields { stratum: 15, ..GOOD }, T), Accepted);
+    assert_eq!(outcome(Fields { stratum: 16, ..GOOD }, T), Refused(StratumTooHigh));
+    assert_eq!(outcome(Fields { receive: 0, ..GOOD }, T), Refused(ServerTimestampZero));
+    assert_eq!(outcome(Fields { transmit: 0, ..GOOD }, T), Refused(ServerTimestampZero));
+}
+
+#[test]
+fn timestamps() {
+    assert_eq!(outcome(GOOD, T - 1), Refused(ArrivedBeforeSent));
+    assert_eq!(outcome(GOOD, T + (1 << 36)), Accepted);
+    assert_eq!(outcome(GOOD, T + (1 << 36) + 1), Refused(ArrivedTooLate));
+    let back = Fields { transmit: T - 1, ..GOOD };
+    assert_eq!(outcome(back, T), Refused(AnsweredBeforeReceived));
+    let long = Fields { transmit: T + 6, ..GOOD };
+    assert_eq!(outcome(long, T + 5), Refused(DelayNegative));
+    let far = Fields { receive: T + (1 << 62), transmit: T + (1 << 62), ..GOOD };
+    assert_eq!(outcome(far, T), Refused(DifferenceOutOfRange));
+}
+
+#[test]
+fn lengths_and_phases() {
+    let arrived = |client, length: usize| arrival(&client, &vec![0; length], T).err();
+    assert_eq!(arrived(WAITING, 47), Some(PacketLengthWrong));
+    assert_eq!(arrived(FRESH, 47), Some(PacketLengthWrong));
+    assert_eq!(arrived(FRESH, 48), Some(NotWaiting));
+    assert_eq!(arrived(Client { exponent: 15, ..WAITING }, 47), Some(RecordNotLegal));
+}
+
+#[test]
+fn every_kiss_whatever_else_it_carries() {
+    for (row, identifier) in (1..).zip(CODES) {
+        let plain = Fields { stratum: 0, identifier, ..GOOD };
+        let odd = Fields { leap: 3, stratum: 0, identifier, ..BAD_ROOTS };
+        assert_eq!(outcome(plain, T), Kiss(row));
+        assert_eq!(outcome(odd, 0), Kiss(row));
+    }
+}
+
+#[test]
+fn root_delays() {
+    let outcome = |root_delay| outcome(Fields { root_delay, ..GOOD }, T);
+    for delay in [0, 1, 65535] {
+        assert_eq!(outcome(delay), Accepted, "{delay}");
+    }
+    let refused = [65536, 65537, i32::MAX, i32::MIN, -65536, -1].map(outcome);
+    assert!(refused.iter().all(|o| *o == Refused(RootDelayOutOfRange)));
+}
+
+#[test]
+fn root_dispersions() {
+    let outcome = |root_dispersion| outcome(Fields { root_dispersion, ..GOOD }, T);
+    for dispersion in [0, 1, 65535] {
+        assert_eq!(outcome(dispersion), Accepted, "{dispersion}");
+    }
+    let refused = [65536, 65537, (1 << 31) - 1, 1 << 31, u32::MAX].map(outcome);
+    assert!(refused.iter().all(|o| *o == Refused(RootDispersionTooLarge)));
+}
+
+#[test]
+fn root_fields_come_after() {
+    let wrong = BAD_ROOTS;
+    assert_eq!(outcome(Fields { originate: T + 1, ..wrong }, T), Refused(OriginateMismatch));
+    assert_eq!(outcome(Fields { mode: 3, ..wrong }, T), Refused(ReplyModeWrong));
+    assert_eq!(outcome(Fields { version: 3, ..wrong }, T), Refused(VersionMismatch));
+    assert_eq!(outcome(wrong, 0), Refused(OwnClockZero));
+    assert_eq!(outcome(Fields { leap: 3, ..wrong }, T), Refused(ServerUnsynchronised));
+    assert_eq!(outcome(Fields { stratum: 16, ..wrong }, T), Refused(StratumTooHigh));
+    assert_eq!(outcome(Fields { receive: 0, ..wrong }, T), Refused(ServerTimestampZero));
+    assert_eq!(outcome(Fields { transmit: 0, ..wrong }, T), Refused(ServerTimestampZero));
+    assert_eq!(outcome(wrong, T), Refused(RootDelayOutOfRange));
+}
+
+#[test]
+fn root_fields_come_before_timestamps() {
+    let far = T + (1 << 62);
+    let later = [
+        (T, T, T - 1, ArrivedBeforeSent),
+        (T, T, T + (1 << 36) + 1, ArrivedTooLate),
+        (T, T - 1, T, AnsweredBeforeReceived),
+        (T, T + 6, T + 5, DelayNegative),
+        (far, far, T, DifferenceOutOfRange),
+    ];
+    for (receive, transmit, t4, refusal) in later {
+        let with = |root_delay, root_dispersion| {
+            outcome(Fields { root_delay, root_dispersion, receive, transmit, ..GOOD }, t4)
+        };
+        assert_eq!(with(65536, 0), Refused(RootDelayOutOfRange));
+        assert_eq!(with(0, 65536), Refused(RootDispersionTooLarge));
+        assert_eq!(with(65535, 65535), Refused(refusal));
+    }
+}

@@ -1,0 +1,131 @@
+//! The answers to single conformance lines.
+
+fn said(input: &str) -> String {
+    let mut output = Vec::new();
+    reference::conformance::run(input.as_bytes(), &mut output).unwrap();
+    String::from_utf8(output).unwrap()
+}
+
+fn one(input: &str) -> String {
+    said(input).trim_end().to_string()
+}
+
+#[test]
+fn small_operations() {
+    assert_eq!(said(""), "");
+    assert_eq!(one("F0"), "000000000000000000000000000000000000000006");
+    assert_eq!(one("f1"), "00000000000000000000000001000000000000001000000000");
+    assert_eq!(one("F2FFFFFFFFFFFFFFFF"), "00FFFFFFFFFFFFFFFF01");
+    assert_eq!(one("F28000000000000000"), "00C00000000000000000");
+    assert_eq!(one("0100000000000000010000000000000002"), "00FFFFFFFFFFFFFFFF");
+    assert_eq!(one("0700000000000010C7"), "00ED");
+    assert_eq!(one("070000000000001000"), "00EC");
+    assert_eq!(one("070000000000000000"), "1C");
+    assert_eq!(one("050000000000000000"), "18");
+    assert_eq!(one("050000000000000001"), "00000007F40207061C1000000001");
+    assert_eq!(one("06000007F40207061C1000000001"), "000000000000000001");
+    assert_eq!(one("06000007F40207061C1000000000"), "18");
+    assert_eq!(one("0600000834021D00000000000000"), "19");
+}
+
+#[test]
+fn measures() {
+    let t = "0000000100000000";
+    assert_eq!(one(&format!("02{t}{t}{t}{t}")), format!("00{}", "00".repeat(17)));
+    assert_eq!(
+        one(&format!("02{t}{t}{t}0000000100000001")),
+        "00FFFFFFFFFFFFFFFF010000000000000001"
+    );
+    assert_eq!(one(&format!("02{t}{t}{t}0000001100000001")), "10");
+    assert_eq!(one(&format!("02{t}{t}{t}00000000FFFFFFFF")), "0F");
+}
+
+#[test]
+fn buffers_are_shown() {
+    assert_eq!(one(&format!("0403{}", "00".repeat(50))), "015A5B5C");
+    let text = one(&format!("0450{}{}", "040000", "00".repeat(47)));
+    assert!(text.starts_with("1B5A5B5C5D"));
+    assert_eq!(text.len(), 2 + 160);
+    let text = one(&format!("0432{}{}", "030707", "00".repeat(47)));
+    assert_eq!(text, format!("00FF{}8A8B", "00".repeat(47)));
+}
+
+#[test]
+fn calls_on_records() {
+    let fresh = "0000000000000000000000000000000000000006";
+    let clock = "FFFFFFFA00000000";
+    let text = one(&format!("08{fresh}3004{clock}0000000000000007"));
+    let waiting = format!("01{clock}0401000000000000000706");
+    assert_eq!(text, format!("00{waiting}23{}{clock}", "00".repeat(39)));
+    let reply = "240100EC0000000000000000475053000000000400000000FFFFFFFA0000000000000004800000000000000580000000";
+    let text = one(&format!("09{waiting}FFFFFFFBC0000000{reply}"));
+    let idle = "0000000000000000000001000000000000000706";
+    assert_eq!(text, format!("01000000000A200000000000000000C00000000000000000{idle}"));
+    let kiss = reply.replacen("2401", "2400", 1).replacen("47505300", "52415445", 1);
+    let text = one(&format!("09{waiting}0000000000000000{kiss}"));
+    let stopped = "0200000000000000000001000000000000000706";
+    assert_eq!(text, format!("0200{}524154450C{stopped}", "00".repeat(17)));
+    let text = one(&format!("09{waiting}0000000000000000{reply}"));
+    assert_eq!(text, format!("0003{}{waiting}", "00".repeat(22)));
+    let text = one(&format!("0A{waiting}0000000000000017"));
+    assert_eq!(text, "000000000000000000000001000000000000000707");
+    assert_eq!(one(&format!("0A{waiting}0000000000000016")), format!("14{waiting}"));
+    let illegal = "0000000000000000000000000000000000000007";
+    assert_eq!(one(&format!("0A{illegal}0000000000000016")), format!("1D{illegal}"));
+}
+
+#[test]
+fn calls_on_a_ledger() {
+    let zero = "0000000000000000";
+    let less = "FFFFFFFFFFFFFFFF";
+    let most = "0003FFFFFFFFFFFF";
+    let over = "0004000000000000";
+    assert_eq!(one(&format!("0C{zero}{less}01")), format!("00{less}"));
+    assert_eq!(one(&format!("0C{most}{zero}01")), format!("1F{most}"));
+    assert_eq!(one(&format!("0C{most}{less}00")), "000003FFFFFFFFFFFD");
+    assert_eq!(one(&format!("0C{zero}{zero}02")), format!("1E{zero}"));
+    assert_eq!(one(&format!("0C{over}{zero}02")), format!("1D{over}"));
+    assert_eq!(one(&format!("0D{less}0000000100000000")), format!("00{less}{zero}"));
+    assert_eq!(one(&format!("0D{zero}0000000000000001")), format!("00{zero}{zero}"));
+    assert_eq!(one(&format!("0D{less}0000000100000001")), format!("20{zero}{less}"));
+    assert_eq!(one(&format!("0D{over}{zero}")), format!("1D{zero}{over}"));
+    let tick = format!("000000000000000001{}", "0003FFFFFFFFFFFE");
+    assert_eq!(one(&format!("0D{most}0000000000000001")), tick);
+    assert_eq!(one(&format!("0C{zero}{zero}")), "40");
+    assert_eq!(one(&format!("0D{zero}{zero}00")), "40");
+}
+
+#[test]
+fn malformed_by_their_characters() {
+    for line in ["\n", "0", "F0\r", "F0 ", " F0", "F0\0", "0G", "F", "F00"] {
+        assert_eq!(one(line), "40", "{line:?}");
+    }
+    assert_eq!(said("F0\nF0").lines().count(), 2);
+}
+
+#[test]
+fn malformed_by_their_operation_or_length() {
+    for line in ["00", "0E", "F3", "F000", "0100", "0C", "0D"] {
+        assert_eq!(one(line), "40", "{line:?}");
+    }
+    assert_eq!(one("03"), "07");
+    assert_eq!(one(&format!("03{}", "00".repeat(80))), "07");
+    assert_eq!(one(&format!("03{}", "00".repeat(81))), "40");
+}
+
+#[test]
+fn malformed_by_one_octet() {
+    let record = ["00", "0000000000000000", "00", "00", "0000000000000000", "06"];
+    let ask = |phase, asked, n| {
+        let [_, transmit, version, _, uptime, exponent] = record;
+        let record = [phase, transmit, version, asked, uptime, exponent].concat();
+        one(&format!("08{record}{n}04FFFFFFFA000000000000000000000007"))
+    };
+    assert!(ask("00", "00", "30").starts_with("0001"));
+    assert!(ask("00", "00", "50").starts_with("0001"));
+    assert_eq!(ask("03", "00", "30"), "40");
+    assert_eq!(ask("00", "02", "30"), "40");
+    assert_eq!(ask("00", "00", "51"), "40");
+    assert_eq!(one(&format!("0B00{}", "00".repeat(31))), "01");
+    assert_eq!(one(&format!("0B02{}", "00".repeat(31))), "40");
+}

@@ -1,0 +1,84 @@
+//! Replays of whole inputs, however their lines end.
+
+fn replay(input: &[u8]) -> String {
+    let mut output = Vec::new();
+    reference::replay::run(input, &mut output).unwrap();
+    String::from_utf8(output).unwrap()
+}
+
+const CASE: &str = "\
+A10000000000000000FFFFFFFA00000000
+A20000000000000001FFFFFFFBC0000000240100EC0000000000000000475053000000000400000000FFFFFFFA0000000000000004800000000000000580000000
+A1000000000000003FFFFFFFFC00000000
+A30000000000000040FFFFFFFC00000000
+";
+const ANSWERS: &str = "\
+0023000000000000000000000000000000000000000000000000000000000000000000000000000000FFFFFFFA00000000
+000000000A200000000000000000C0000000
+06
+08
+";
+
+#[test]
+fn whole_case() {
+    assert_eq!(replay(CASE.as_bytes()), ANSWERS);
+    assert_eq!(replay(CASE.to_lowercase().as_bytes()), ANSWERS);
+    assert_eq!(replay(CASE.trim_end().as_bytes()), ANSWERS);
+}
+
+#[test]
+fn line_ends() {
+    assert_eq!(replay(b""), "");
+    assert_eq!(replay(b"\n"), "40\n");
+    assert_eq!(replay(b"\n\n"), "40\n40\n");
+    assert_eq!(replay(b"A"), "40\n");
+    assert_eq!(replay(b"\r\n"), "40\n");
+    assert_eq!(replay(b"\0"), "40\n");
+    assert_eq!(replay(CASE.replace('\n', "\r\n").as_bytes()), "40\n".repeat(4));
+}
+
+#[test]
+fn malformed_lines() {
+    let lines = [
+        "A1000000000000000000000000000000010",
+        "A1 0000000000000000000000000000001",
+        "A4000000000000000000000000000000FF",
+        "A1000000000000000000000000000000",
+        "A100000000000000000000000000000001FF",
+        "A300000000000000000000000000000001FF",
+    ];
+    for line in lines {
+        assert_eq!(replay(line.as_bytes()), "40\n", "{line}");
+    }
+}
+
+#[test]
+fn packet_lengths() {
+    for n in 0..=80 {
+        let line = format!("A2{}{}\n", "00".repeat(16), "00".repeat(n));
+        let wanted = match n {
+            48 | 68 => "08\n",
+            0..=68 => "07\n",
+            _ => "40\n",
+        };
+        assert_eq!(replay(line.as_bytes()), wanted);
+    }
+}
+
+#[test]
+fn long_lines_do_not_stop_it() {
+    let mut input = vec![b'A'; 1_000_001];
+    input.push(b'\n');
+    input.extend_from_slice(CASE.as_bytes());
+    assert_eq!(replay(&input), format!("40\n{ANSWERS}"));
+}
+
+#[test]
+fn a_kiss_stops_the_client() {
+    let ask = "A1000000000000000000000000000000AA\n";
+    let head = format!("A2{}", "00".repeat(16));
+    let kiss = format!("24{}44454E59{}AA{}\n", "00".repeat(11), "00".repeat(15), "00".repeat(16));
+    let answers = replay(format!("{ask}{head}{kiss}{ask}").as_bytes());
+    let tail: Vec<&str> = answers.lines().skip(1).collect();
+    assert_eq!(tail, ["E044454E59", "04"]);
+}
