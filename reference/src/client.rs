@@ -6,7 +6,7 @@ use crate::refusal::Refusal::{self, *};
 pub const LEAST_EXPONENT: u8 = 6;
 pub const LARGEST_EXPONENT: u8 = 14;
 /// Seconds after an ask before its request may be given up.
-const PATIENCE: i128 = 16;
+const GIVE_UP_SECONDS: i128 = 16;
 
 #[derive(Clone, Copy, PartialEq, Eq, Debug)]
 pub enum Phase {
@@ -90,7 +90,7 @@ pub fn ask(
 pub fn give_up(client: &Client, uptime: u64) -> Result<Client, Refusal> {
     RecordNotLegal.when(!legal(client))?;
     NotWaiting.when(client.phase != Phase::Waiting)?;
-    GaveUpTooSoon.when(i128::from(uptime) < i128::from(client.uptime) + PATIENCE)?;
+    GaveUpTooSoon.when(i128::from(uptime) < i128::from(client.uptime) + GIVE_UP_SECONDS)?;
     Ok(without_request(client, Phase::Idle, raised(client.exponent)))
 }
 
