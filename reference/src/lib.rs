@@ -2,6 +2,8 @@
 //! and both line formats, so that its answers can be compared octet for octet with another
 //! program's. It is written from docs/RULES.md and docs/CONFORMANCE.md alone.
 
+#![cfg_attr(not(test), deny(clippy::unwrap_used, clippy::expect_used, clippy::panic))]
+
 pub mod arrival;
 pub mod calendar;
 pub mod calendar_benchmark;

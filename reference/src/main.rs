@@ -1,5 +1,7 @@
 //! The commands of the independent program.
 
+#![deny(clippy::unwrap_used, clippy::expect_used, clippy::panic)]
+
 use reference::count::{self, Counter};
 use reference::{calendar_benchmark, conformance, generate, replay};
 use std::fs::File;

@@ -2,23 +2,23 @@
 
 use super::call::{Call, LONGEST, put_numbers};
 use super::records::{put_client, put_date, put_fields};
-use crate::arrival::{self, Arrived, Told};
-use crate::client::{self, Client, FRESH};
+use crate::arrival::{Arrived, Told, arrival};
+use crate::client::{Client, FRESH, ask, give_up};
 use crate::refusal::{Refusal, number_of};
 use crate::timestamp::{self, Measured};
 use crate::{calendar, ledger, packet, precision, server};
 
 pub fn put_answer(call: &Call, out: &mut Vec<u8>) {
     match *call {
-        Call::Difference { x, y } => {
-            out.push(0);
-            put_numbers([timestamp::difference(x, y) as u64], out);
-        }
+        Call::Difference { x, y } => put_difference(x, y, out),
         Call::Measure { t1, t2, t3, t4 } => {
             put_result(timestamp::measure(t1, t2, t3, t4), out, |m, out| m.put(out));
         }
         Call::ReadFields { packet } => {
             put_result(packet::read(packet), out, |fields, out| put_fields(&fields, out));
+        }
+        Call::WriteFields { n, ref fields } => {
+            put_written(n, out, |buffer| packet::write(fields, buffer));
         }
         Call::DateOfTimestamp { timestamp } => {
             put_result(calendar::date_of(timestamp), out, |date, out| put_date(&date, out));
@@ -29,39 +29,32 @@ pub fn put_answer(call: &Call, out: &mut Vec<u8>) {
         Call::Precision { tick } => {
             put_result(precision::precision(tick), out, |p, out| out.push(p as u8));
         }
-        Call::Entry { debt, offset, half } => put_entry(debt, offset, half, out),
-        Call::Tick { debt, limit } => put_tick(debt, limit, out),
-        Call::Halve { sum } => put_halves(sum, out),
-        Call::Constants => {
-            out.push(0);
-            put_numbers([timestamp::ZERO, timestamp::SECOND, timestamp::LIMIT], out);
-        }
-        _ => put_protocol_answer(call, out),
-    }
-}
-
-/// The answers that show a record of the client or a buffer.
-fn put_protocol_answer(call: &Call, out: &mut Vec<u8>) {
-    match *call {
-        Call::WriteFields { n, ref fields } => {
-            put_written(n, out, |buffer| packet::write(fields, buffer));
-        }
         Call::Ask { client, n, version, clock, uptime } => {
-            let mut space = FILLED;
-            let buffer = lent(&mut space, n);
-            put_next(client, client::ask(&client, buffer, version, clock, uptime), out);
-            out.extend_from_slice(buffer);
+            put_asked(client, n, out, |buffer| ask(&client, buffer, version, clock, uptime));
         }
         Call::Arrival { client, t4, packet } => {
-            put_arrival(client, arrival::arrival(&client, packet, t4), out);
+            put_arrival(client, arrival(&client, packet, t4), out);
         }
-        Call::GiveUp { client, uptime } => put_next(client, client::give_up(&client, uptime), out),
+        Call::GiveUp { client, uptime } => put_next(client, give_up(&client, uptime), out),
         Call::Reply { ref settings, t2, t3, n, request } => {
             put_written(n, out, |buffer| server::reply(settings, t2, t3, request, buffer));
         }
+        Call::Entry { debt, offset, half } => put_entry(debt, offset, half, out),
+        Call::Tick { debt, limit } => put_tick(debt, limit, out),
         Call::Fresh => put_next(FRESH, Ok(FRESH), out),
-        _ => {}
+        Call::Constants => put_constants(out),
+        Call::Halve { sum } => put_halves(sum, out),
     }
+}
+
+fn put_difference(x: u64, y: u64, out: &mut Vec<u8>) {
+    out.push(0);
+    put_numbers([timestamp::difference(x, y) as u64], out);
+}
+
+fn put_constants(out: &mut Vec<u8>) {
+    out.push(0);
+    put_numbers([timestamp::ZERO, timestamp::SECOND, timestamp::LIMIT], out);
 }
 
 /// The number, and if it is 00 what `put` makes of the value.
@@ -94,6 +87,19 @@ fn put_written(n: u8, out: &mut Vec<u8>, call: impl FnOnce(&mut [u8]) -> Result<
     let mut space = FILLED;
     let buffer = lent(&mut space, n);
     out.push(number_of(&call(buffer)));
+    out.extend_from_slice(buffer);
+}
+
+/// The same, with the next record between the two.
+fn put_asked(
+    client: Client,
+    n: u8,
+    out: &mut Vec<u8>,
+    call: impl FnOnce(&mut [u8]) -> Result<Client, Refusal>,
+) {
+    let mut space = FILLED;
+    let buffer = lent(&mut space, n);
+    put_next(client, call(buffer), out);
     out.extend_from_slice(buffer);
 }
 

@@ -80,6 +80,10 @@ fn read_n(octets: &mut Reader) -> Result<u8, Malformed> {
     }
 }
 
+fn read_measure<'a>(octets: &mut Reader<'a>) -> Result<Call<'a>, Malformed> {
+    Ok(Call::Measure { t1: octets.u64()?, t2: octets.u64()?, t3: octets.u64()?, t4: octets.u64()? })
+}
+
 fn read_ask<'a>(octets: &mut Reader<'a>) -> Result<Call<'a>, Malformed> {
     Ok(Call::Ask {
         client: read_client(octets)?,
@@ -88,6 +92,10 @@ fn read_ask<'a>(octets: &mut Reader<'a>) -> Result<Call<'a>, Malformed> {
         clock: octets.u64()?,
         uptime: octets.u64()?,
     })
+}
+
+fn read_arrival<'a>(octets: &mut Reader<'a>) -> Result<Call<'a>, Malformed> {
+    Ok(Call::Arrival { client: read_client(octets)?, t4: octets.u64()?, packet: octets.rest() })
 }
 
 fn read_reply<'a>(octets: &mut Reader<'a>) -> Result<Call<'a>, Malformed> {
@@ -100,39 +108,25 @@ fn read_reply<'a>(octets: &mut Reader<'a>) -> Result<Call<'a>, Malformed> {
     })
 }
 
-/// The calls that have a record of the client or the server's settings.
-fn read_protocol_call<'a>(operation: u8, octets: &mut Reader<'a>) -> Result<Call<'a>, Malformed> {
-    Ok(match operation {
-        0x08 => read_ask(octets)?,
-        0x09 => {
-            Call::Arrival { client: read_client(octets)?, t4: octets.u64()?, packet: octets.rest() }
-        }
-        0x0A => Call::GiveUp { client: read_client(octets)?, uptime: octets.u64()? },
-        0x0B => read_reply(octets)?,
-        _ => return Err(Malformed::Operation),
-    })
-}
-
 fn read_call<'a>(operation: u8, octets: &mut Reader<'a>) -> Result<Call<'a>, Malformed> {
     Ok(match operation {
         0x01 => Call::Difference { x: octets.u64()?, y: octets.u64()? },
-        0x02 => Call::Measure {
-            t1: octets.u64()?,
-            t2: octets.u64()?,
-            t3: octets.u64()?,
-            t4: octets.u64()?,
-        },
+        0x02 => read_measure(octets)?,
         0x03 => Call::ReadFields { packet: octets.rest() },
         0x04 => Call::WriteFields { n: read_n(octets)?, fields: read_fields(octets)? },
         0x05 => Call::DateOfTimestamp { timestamp: octets.u64()? },
         0x06 => Call::TimestampOfDate { date: read_date(octets)? },
         0x07 => Call::Precision { tick: octets.u64()? },
+        0x08 => read_ask(octets)?,
+        0x09 => read_arrival(octets)?,
+        0x0A => Call::GiveUp { client: read_client(octets)?, uptime: octets.u64()? },
+        0x0B => read_reply(octets)?,
         0x0C => Call::Entry { debt: octets.i64()?, offset: octets.i64()?, half: octets.u8()? },
         0x0D => Call::Tick { debt: octets.i64()?, limit: octets.u64()? },
         0xF0 => Call::Fresh,
         0xF1 => Call::Constants,
         0xF2 => Call::Halve { sum: octets.i64()? },
-        _ => return read_protocol_call(operation, octets),
+        _ => return Err(Malformed::Operation),
     })
 }
 
@@ -181,41 +175,41 @@ impl<'a> Call<'a> {
             Call::DateOfTimestamp { timestamp } => put_numbers([timestamp], line),
             Call::TimestampOfDate { ref date } => put_date(date, line),
             Call::Precision { tick } => put_numbers([tick], line),
-            Call::Entry { debt, offset, half } => {
-                put_numbers([debt as u64, offset as u64], line);
-                line.push(half);
-            }
-            Call::Tick { debt, limit } => put_numbers([debt as u64, limit], line),
-            Call::Halve { sum } => put_numbers([sum as u64], line),
-            _ => self.put_protocol_call(line),
-        }
-    }
-
-    fn put_protocol_call(&self, line: &mut Vec<u8>) {
-        match *self {
             Call::Ask { ref client, n, version, clock, uptime } => {
                 put_client(client, line);
                 line.extend([n, version]);
                 put_numbers([clock, uptime], line);
             }
-            Call::Arrival { ref client, t4, packet } => {
-                put_client(client, line);
-                put_numbers([t4], line);
-                line.extend(packet);
-            }
+            Call::Arrival { ref client, t4, packet } => put_arrival(client, t4, packet, line),
             Call::GiveUp { ref client, uptime } => {
                 put_client(client, line);
                 put_numbers([uptime], line);
             }
             Call::Reply { ref settings, t2, t3, n, request } => {
-                put_settings(settings, line);
-                put_numbers([t2, t3], line);
-                line.push(n);
-                line.extend(request);
+                put_reply(settings, [t2, t3], n, request, line);
             }
-            _ => {}
+            Call::Entry { debt, offset, half } => {
+                put_numbers([debt as u64, offset as u64], line);
+                line.push(half);
+            }
+            Call::Tick { debt, limit } => put_numbers([debt as u64, limit], line),
+            Call::Fresh | Call::Constants => {}
+            Call::Halve { sum } => put_numbers([sum as u64], line),
         }
     }
+}
+
+fn put_arrival(client: &Client, t4: u64, packet: &[u8], line: &mut Vec<u8>) {
+    put_client(client, line);
+    put_numbers([t4], line);
+    line.extend(packet);
+}
+
+fn put_reply(settings: &Settings, t2_t3: [u64; 2], n: u8, request: &[u8], line: &mut Vec<u8>) {
+    put_settings(settings, line);
+    put_numbers(t2_t3, line);
+    line.push(n);
+    line.extend(request);
 }
 
 /// Appends numbers of eight octets.
