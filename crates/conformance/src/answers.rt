@@ -1,13 +1,14 @@
-// The octets of an answer: the values of a call in order, then the first octets of the buffer that was lent to it.
+// Answers: the values of a call in order, then the first octets of the buffer that was lent to it.
 ghost use Prim.Native.Nat.{_≤_};
 use client::Client;
 use client::Phase;
 use packet::Fields;
 
-// The longest answer, that of operation 08, has 101 octets.
+// The longest answer, that of operation 08, has 101 octets. `line_end` is where the last part ends of the line that is answered.
 pub(crate) struct Answer {
     pub(crate) octets: [u8; 128],
     pub(crate) count: usize,
+    pub(crate) line_end: usize,
 }
 
 fn phase_octet(phase: Phase) -> u8 {
@@ -19,23 +20,14 @@ fn phase_octet(phase: Phase) -> u8 {
 }
 
 impl Answer {
-    // An answer of one octet.
-    pub(crate) fn number(number: u8) -> Answer {
+    // An answer of one octet to a line whose last part ends at an index.
+    pub(crate) fn number(number: u8, line_end: usize) -> Answer {
         let mut octets = [0u8; 128];
         octets[0] = number;
-        Answer { octets, count: 1 }
-    }
-
-    pub(crate) fn malformed() -> Answer {
-        Answer::number(refusals::LINE_MALFORMED)
-    }
-
-    // This answer to a line that is well formed, and to any other the number for a malformed one.
-    pub(crate) fn if_well_formed(self, well_formed: bool) -> Answer {
-        if well_formed {
-            self
-        } else {
-            Answer::malformed()
+        Answer {
+            octets,
+            count: 1,
+            line_end,
         }
     }
 
@@ -52,6 +44,7 @@ impl Answer {
         Answer {
             octets,
             count: at + count,
+            line_end: self.line_end,
         }
     }
 
@@ -105,6 +98,7 @@ impl Answer {
         if 48 < at {
             return self;
         }
+        let line_end = self.line_end;
         let mut octets = self.octets;
         for i in 0..count {
             octets[at + i] = lent[i];
@@ -112,6 +106,7 @@ impl Answer {
         Answer {
             octets,
             count: at + count,
+            line_end,
         }
     }
 }

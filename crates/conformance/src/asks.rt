@@ -1,41 +1,57 @@
 // The operations of the client: 08, 09, 0A and F0.
 use crate::answers::Answer;
-use crate::input::after;
-use crate::input::octet;
-use crate::input::record;
-use crate::input::timestamp;
+use crate::input::packet;
+use crate::input::packet_end;
+use crate::input::take_limited;
+use crate::input::take_record;
+use crate::input::take_timestamp;
+use crate::input::take8;
+use crate::input::take64;
+use crate::lent::LONGEST_LENT;
 use crate::lent::filled;
-use crate::lent::lent_count;
 use client::CallAnswer;
 use client::Called;
 use client::Client;
 use reply_checks::ArrivalAnswer;
-use slices::read_be64;
 
-fn called(next: Called) -> Answer {
+fn called(next: Called, end: usize) -> Answer {
     let answer = next.answer;
     let number = match answer {
         CallAnswer::Refused(number) => number,
         CallAnswer::Done => 0,
     };
-    Answer::number(number).with_record(next.client)
+    Answer::number(number, end).with_record(next.client)
 }
 
-pub(crate) fn ask(line: &[u8]) -> Answer {
+pub(crate) fn ask(line: &[u8], at: usize) -> Answer {
+    let record = take_record(line, at);
+    let n = take_limited(line, record.end, LONGEST_LENT);
+    let version = take8(line, n.end);
+    let clock = take_timestamp(line, version.end);
+    let uptime = take64(line, clock.end);
+    let client = record.value;
+    let lent = n.value as usize;
     let mut buffer = filled();
-    let n = lent_count(line, 21);
-    let version = octet(line, 22);
-    let clock = timestamp(line, 23);
-    let uptime = read_be64(line, 31);
-    let client = record(line);
-    let next = client.ask(&mut buffer[0..n], version, clock, uptime);
-    called(next).with_lent(buffer, n)
+    let next = client.ask(
+        &mut buffer[0..lent],
+        version.value,
+        clock.value,
+        uptime.value,
+    );
+    called(next, uptime.end).with_lent(buffer, lent)
 }
 
-// What an arrival answers has one form for every case.
-fn outcome(kind: u8, number: u8, offset: i64, half: u8, delay: i64, code: u32, row: u8) -> Answer {
-    Answer::number(kind)
-        .with8(number)
+// What an arrival answers has one form for every kind.
+fn outcome(
+    kind: Answer,
+    number: u8,
+    offset: i64,
+    half: u8,
+    delay: i64,
+    code: u32,
+    row: u8,
+) -> Answer {
+    kind.with8(number)
         .with_signed64(offset)
         .with8(half)
         .with_signed64(delay)
@@ -43,30 +59,36 @@ fn outcome(kind: u8, number: u8, offset: i64, half: u8, delay: i64, code: u32, r
         .with8(row)
 }
 
-fn outcome_of(answer: ArrivalAnswer) -> Answer {
+fn arrived(answer: ArrivalAnswer, end: usize) -> Answer {
     match answer {
-        ArrivalAnswer::Refused(number) => outcome(0, number, 0, 0, 0, 0, 0),
+        ArrivalAnswer::Refused(number) => outcome(Answer::number(0, end), number, 0, 0, 0, 0, 0),
         ArrivalAnswer::Accepted {
             offset,
             half,
             delay,
-        } => outcome(1, 0, offset, half, delay, 0, 0),
-        ArrivalAnswer::Kiss { code, row } => outcome(2, 0, 0, 0, 0, code, row),
+        } => outcome(Answer::number(1, end), 0, offset, half, delay, 0, 0),
+        ArrivalAnswer::Kiss { code, row } => outcome(Answer::number(2, end), 0, 0, 0, 0, code, row),
     }
 }
 
-pub(crate) fn arrival(line: &[u8]) -> Answer {
-    let client = record(line);
-    let next = client.arrival(after(line, 29), timestamp(line, 21));
+pub(crate) fn arrival(line: &[u8], at: usize) -> Answer {
+    let record = take_record(line, at);
+    let t4 = take_timestamp(line, record.end);
+    let packet = packet(line, t4.end);
+    let end = packet_end(line, t4.end);
+    let client = record.value;
+    let next = client.arrival(packet, t4.value);
     let answer = next.answer;
-    outcome_of(answer).with_record(next.client)
+    arrived(answer, end).with_record(next.client)
 }
 
-pub(crate) fn give_up(line: &[u8]) -> Answer {
-    let client = record(line);
-    called(client.give_up(read_be64(line, 21)))
+pub(crate) fn give_up(line: &[u8], at: usize) -> Answer {
+    let record = take_record(line, at);
+    let uptime = take64(line, record.end);
+    let client = record.value;
+    called(client.give_up(uptime.value), uptime.end)
 }
 
-pub(crate) fn fresh() -> Answer {
-    Answer::number(0).with_record(Client::fresh())
+pub(crate) fn fresh(at: usize) -> Answer {
+    Answer::number(0, at).with_record(Client::fresh())
 }

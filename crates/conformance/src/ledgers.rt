@@ -1,40 +1,43 @@
 // The operations of the ledger: 0C and 0D.
 use crate::answers::Answer;
-use crate::input::octet;
+use crate::input::take8;
+use crate::input::take64;
 use ledger::EntryAnswer;
 use ledger::Ledger;
 use ledger::TickAnswer;
-use slices::read_be64;
 use twos_complement::signed64;
 
-fn ledger_in(line: &[u8]) -> Ledger {
-    Ledger {
-        debt: signed64(read_be64(line, 1)),
-    }
-}
-
-pub(crate) fn entry(line: &[u8]) -> Answer {
-    let ledger = ledger_in(line);
-    let entered = ledger.entry(signed64(read_be64(line, 9)), octet(line, 17));
+pub(crate) fn entry(line: &[u8], at: usize) -> Answer {
+    let debt = take64(line, at);
+    let offset = take64(line, debt.end);
+    let half = take8(line, offset.end);
+    let ledger = Ledger {
+        debt: signed64(debt.value),
+    };
+    let entered = ledger.entry(signed64(offset.value), half.value);
     let answer = entered.answer;
     let number = match answer {
         EntryAnswer::Refused(number) => number,
         EntryAnswer::Taken => 0,
     };
-    Answer::number(number).with_signed64(entered.ledger.debt)
+    Answer::number(number, half.end).with_signed64(entered.ledger.debt)
 }
 
 // A refused tick has paid 0.
-fn paid(answer: TickAnswer) -> Answer {
+fn paid(answer: TickAnswer, end: usize) -> Answer {
     match answer {
-        TickAnswer::Refused(number) => Answer::number(number).with_signed64(0),
-        TickAnswer::Paid(paid) => Answer::number(0).with_signed64(paid),
+        TickAnswer::Refused(number) => Answer::number(number, end).with_signed64(0),
+        TickAnswer::Paid(paid) => Answer::number(0, end).with_signed64(paid),
     }
 }
 
-pub(crate) fn tick(line: &[u8]) -> Answer {
-    let ledger = ledger_in(line);
-    let ticked = ledger.tick(read_be64(line, 9));
+pub(crate) fn tick(line: &[u8], at: usize) -> Answer {
+    let debt = take64(line, at);
+    let limit = take64(line, debt.end);
+    let ledger = Ledger {
+        debt: signed64(debt.value),
+    };
+    let ticked = ledger.tick(limit.value);
     let answer = ticked.answer;
-    paid(answer).with_signed64(ticked.ledger.debt)
+    paid(answer, limit.end).with_signed64(ticked.ledger.debt)
 }

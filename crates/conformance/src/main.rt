@@ -11,10 +11,9 @@ mod times;
 
 use answers::Answer;
 use hex_decode::Line;
-use input::has_record;
-use input::octet;
-use lent::can_lend;
+use input::take8;
 use libc::STDIN_FILENO;
+use refusals::LINE_MALFORMED;
 
 // The line so far, and where its answer goes.
 struct State {
@@ -22,37 +21,42 @@ struct State {
     at: usize,
 }
 
-// The answer to a line of these octets.
+// The answer to a line of these octets, if the line is well formed.
 fn answer_to(line: &[u8]) -> Answer {
-    let n = line.len();
-    match octet(line, 0) {
-        0x01 => times::difference(line).if_well_formed(n == 17),
-        0x02 => times::measure(line).if_well_formed(n == 33),
-        0x03 => packets::read(line).if_well_formed(n <= 81),
-        0x04 => packets::write(line).if_well_formed((n == 52) & can_lend(line, 1)),
-        0x05 => times::date(line).if_well_formed(n == 9),
-        0x06 => times::timestamp_of_date(line).if_well_formed(n == 14),
-        0x07 => times::precision(line).if_well_formed(n == 9),
-        0x08 => asks::ask(line).if_well_formed((n == 39) & has_record(line) & can_lend(line, 21)),
-        0x09 => asks::arrival(line).if_well_formed((29 <= n) & (n <= 109) & has_record(line)),
-        0x0A => asks::give_up(line).if_well_formed((n == 29) & has_record(line)),
-        0x0B => replies::reply(line).if_well_formed(replies::is_well_formed(line)),
-        0x0C => ledgers::entry(line).if_well_formed(n == 18),
-        0x0D => ledgers::tick(line).if_well_formed(n == 17),
-        0xF0 => asks::fresh().if_well_formed(n == 1),
-        0xF1 => times::constants().if_well_formed(n == 1),
-        0xF2 => times::halve(line).if_well_formed(n == 9),
-        _ => Answer::malformed(),
+    let operation = take8(line, 0);
+    let at = operation.end;
+    let number = operation.value;
+    match number {
+        0x01 => times::difference(line, at),
+        0x02 => times::measure(line, at),
+        0x03 => packets::read(line, at),
+        0x04 => packets::write(line, at),
+        0x05 => times::date(line, at),
+        0x06 => times::timestamp_of_date(line, at),
+        0x07 => times::precision(line, at),
+        0x08 => asks::ask(line, at),
+        0x09 => asks::arrival(line, at),
+        0x0A => asks::give_up(line, at),
+        0x0B => replies::reply(line, at),
+        0x0C => ledgers::entry(line, at),
+        0x0D => ledgers::tick(line, at),
+        0xF0 => asks::fresh(at),
+        0xF1 => times::constants(at),
+        0xF2 => times::halve(line, at),
+        _ => Answer::number(LINE_MALFORMED, at),
     }
 }
 
-// The answer to a line that has ended; its octets are at the start of the buffer.
+// The answer to a line that has ended; its octets are at the start of the buffer. Well formed is a line that ends where its last part does.
 fn answer_line(line: Line, octets: &[u8]) -> Answer {
     let count = line.count;
-    if octets.len() < count {
-        return Answer::malformed();
+    if count <= octets.len() {
+        let answer = answer_to(&octets[0..count]);
+        if (answer.line_end == count) & line.is_complete() {
+            return answer;
+        }
     }
-    answer_to(&octets[0..count]).if_well_formed(line.is_complete())
+    Answer::number(LINE_MALFORMED, count)
 }
 
 fn end_line(line: Line, octets: &[u8], out: &mut [u8], at: usize) -> usize {

@@ -17,7 +17,7 @@ fn put_first(out: &mut [u8], at: usize, octets: &[u8], count: usize) -> usize {
     if octets.len() < count {
         return at;
     }
-    put_line(out, at, &octets[..count])
+    put_line(out, at, &octets[0..count])
 }
 
 // Puts the line of an answer, and answers where the next one goes.

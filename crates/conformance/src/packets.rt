@@ -1,29 +1,31 @@
 // The operations on a packet's fields: 03 and 04.
 use crate::answers::Answer;
-use crate::input::after;
-use crate::input::fields;
+use crate::input::packet;
+use crate::input::packet_end;
+use crate::input::take_fields;
+use crate::input::take_limited;
+use crate::lent::LONGEST_LENT;
 use crate::lent::filled;
-use crate::lent::lent_count;
 use packet::FieldsAnswer;
 use packet::WriteAnswer;
 
-pub(crate) fn read(line: &[u8]) -> Answer {
-    match packet::read(after(line, 1)) {
-        FieldsAnswer::Refused(number) => Answer::number(number),
-        FieldsAnswer::Fields(fields) => Answer::number(0).with_fields(fields),
+pub(crate) fn read(line: &[u8], at: usize) -> Answer {
+    let packet = packet(line, at);
+    let end = packet_end(line, at);
+    match packet::read(packet) {
+        FieldsAnswer::Refused(number) => Answer::number(number, end),
+        FieldsAnswer::Fields(fields) => Answer::number(0, end).with_fields(fields),
     }
 }
 
-fn written(answer: WriteAnswer) -> Answer {
-    match answer {
-        WriteAnswer::Refused(number) => Answer::number(number),
-        WriteAnswer::Written => Answer::number(0),
-    }
-}
-
-pub(crate) fn write(line: &[u8]) -> Answer {
+pub(crate) fn write(line: &[u8], at: usize) -> Answer {
+    let n = take_limited(line, at, LONGEST_LENT);
+    let fields = take_fields(line, n.end);
+    let lent = n.value as usize;
     let mut buffer = filled();
-    let n = lent_count(line, 1);
-    let answer = packet::write(&mut buffer[0..n], fields(line));
-    written(answer).with_lent(buffer, n)
+    let number = match packet::write(&mut buffer[0..lent], fields.value) {
+        WriteAnswer::Refused(number) => number,
+        WriteAnswer::Written => 0,
+    };
+    Answer::number(number, fields.end).with_lent(buffer, lent)
 }

@@ -1,42 +1,61 @@
 // The operation of the server: 0B.
 use crate::answers::Answer;
-use crate::input::after;
-use crate::input::octet;
-use crate::input::timestamp;
-use crate::lent::can_lend;
+use crate::input::packet;
+use crate::input::packet_end;
+use crate::input::take_limited;
+use crate::input::take_timestamp;
+use crate::input::take8;
+use crate::input::take32;
+use crate::input::take64;
+use crate::lent::LONGEST_LENT;
 use crate::lent::filled;
-use crate::lent::lent_count;
 use server::ReplyAnswer;
 use server::Settings;
+use timestamp::Timestamp;
+use twos_complement::signed8;
 
-fn replied(answer: ReplyAnswer) -> Answer {
-    match answer {
-        ReplyAnswer::Refused(number) => Answer::number(number),
-        ReplyAnswer::Written => Answer::number(0),
+struct TakenSettings {
+    value: Settings,
+    end: usize,
+}
+
+fn take_settings(line: &[u8], at: usize) -> TakenSettings {
+    let synchronised = take_limited(line, at, 1);
+    let leap = take8(line, synchronised.end);
+    let precision = take8(line, leap.end);
+    let identifier = take32(line, precision.end);
+    let reference = take64(line, identifier.end);
+    let value = Settings {
+        synchronised: synchronised.value == 1,
+        leap: leap.value,
+        precision: signed8(precision.value),
+        identifier: identifier.value,
+        reference: Timestamp::from_units(reference.value),
+    };
+    TakenSettings {
+        value,
+        end: reference.end,
     }
 }
 
-fn settings(line: &[u8]) -> Settings {
-    Settings {
-        synchronised: octet(line, 1) == 1,
-        leap: octet(line, 2),
-        precision: twos_complement::signed8(octet(line, 3)),
-        identifier: slices::read_be32(line, 4),
-        reference: timestamp(line, 8),
-    }
-}
-
-pub(crate) fn reply(line: &[u8]) -> Answer {
+pub(crate) fn reply(line: &[u8], at: usize) -> Answer {
+    let settings = take_settings(line, at);
+    let t2 = take_timestamp(line, settings.end);
+    let t3 = take_timestamp(line, t2.end);
+    let n = take_limited(line, t3.end, LONGEST_LENT);
+    let request = packet(line, n.end);
+    let end = packet_end(line, n.end);
+    let lent = n.value as usize;
     let mut buffer = filled();
-    let n = lent_count(line, 32);
-    let request = after(line, 33);
-    let t2 = timestamp(line, 16);
-    let t3 = timestamp(line, 24);
-    let answer = server::reply(settings(line), request, t2, t3, &mut buffer[0..n]);
-    replied(answer).with_lent(buffer, n)
-}
-
-pub(crate) fn is_well_formed(line: &[u8]) -> bool {
-    let n = line.len();
-    (33 <= n) & (n <= 113) & (octet(line, 1) <= 1) & can_lend(line, 32)
+    let number = match server::reply(
+        settings.value,
+        request,
+        t2.value,
+        t3.value,
+        &mut buffer[0..lent],
+    ) {
+        ReplyAnswer::Refused(number) => number,
+        ReplyAnswer::Written => 0,
+    };
+    Answer::number(number, end).with_lent(buffer, lent)
 }

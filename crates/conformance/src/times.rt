@@ -1,43 +1,48 @@
 // The operations on timestamps: 01, 02, 05, 06, 07, F1 and F2.
 use crate::answers::Answer;
-use crate::input::octet;
-use crate::input::timestamp;
+use crate::input::take_timestamp;
+use crate::input::take8;
+use crate::input::take32;
+use crate::input::take64;
 use calendar::Date;
 use calendar::DateAnswer;
 use calendar::TimestampAnswer;
 use offset::OffsetAnswer;
 use precision::PrecisionAnswer;
-use slices::read_be32;
-use slices::read_be64;
 use timestamp::Timestamp;
 
-pub(crate) fn difference(line: &[u8]) -> Answer {
-    let x = timestamp(line, 1);
-    Answer::number(0).with_signed64(x.minus(timestamp(line, 9)))
+pub(crate) fn difference(line: &[u8], at: usize) -> Answer {
+    let x = take_timestamp(line, at);
+    let y = take_timestamp(line, x.end);
+    let minuend = x.value;
+    Answer::number(0, y.end).with_signed64(minuend.minus(y.value))
 }
 
-pub(crate) fn measure(line: &[u8]) -> Answer {
-    let t1 = timestamp(line, 1);
-    let t2 = timestamp(line, 9);
-    let t3 = timestamp(line, 17);
-    let t4 = timestamp(line, 25);
-    match offset::measure(t1, t2, t3, t4) {
-        OffsetAnswer::Refused(number) => Answer::number(number),
+pub(crate) fn measure(line: &[u8], at: usize) -> Answer {
+    let t1 = take_timestamp(line, at);
+    let t2 = take_timestamp(line, t1.end);
+    let t3 = take_timestamp(line, t2.end);
+    let t4 = take_timestamp(line, t3.end);
+    let end = t4.end;
+    match offset::measure(t1.value, t2.value, t3.value, t4.value) {
+        OffsetAnswer::Refused(number) => Answer::number(number, end),
         OffsetAnswer::Measured {
             offset,
             half,
             delay,
-        } => Answer::number(0)
+        } => Answer::number(0, end)
             .with_signed64(offset)
             .with8(half)
             .with_signed64(delay),
     }
 }
 
-pub(crate) fn date(line: &[u8]) -> Answer {
-    match calendar::date_of_timestamp(timestamp(line, 1)) {
-        DateAnswer::Refused(number) => Answer::number(number),
-        DateAnswer::Date(date) => Answer::number(0)
+pub(crate) fn date(line: &[u8], at: usize) -> Answer {
+    let timestamp = take_timestamp(line, at);
+    let end = timestamp.end;
+    match calendar::date_of_timestamp(timestamp.value) {
+        DateAnswer::Refused(number) => Answer::number(number, end),
+        DateAnswer::Date(date) => Answer::number(0, end)
             .with32(date.year)
             .with8(date.month)
             .with8(date.day)
@@ -48,41 +53,52 @@ pub(crate) fn date(line: &[u8]) -> Answer {
     }
 }
 
-pub(crate) fn timestamp_of_date(line: &[u8]) -> Answer {
+pub(crate) fn timestamp_of_date(line: &[u8], at: usize) -> Answer {
+    let year = take32(line, at);
+    let month = take8(line, year.end);
+    let day = take8(line, month.end);
+    let hour = take8(line, day.end);
+    let minute = take8(line, hour.end);
+    let second = take8(line, minute.end);
+    let fraction = take32(line, second.end);
+    let end = fraction.end;
     let date = Date {
-        year: read_be32(line, 1),
-        month: octet(line, 5),
-        day: octet(line, 6),
-        hour: octet(line, 7),
-        minute: octet(line, 8),
-        second: octet(line, 9),
-        fraction: read_be32(line, 10),
+        year: year.value,
+        month: month.value,
+        day: day.value,
+        hour: hour.value,
+        minute: minute.value,
+        second: second.value,
+        fraction: fraction.value,
     };
     match calendar::timestamp_of_date(date) {
-        TimestampAnswer::Refused(number) => Answer::number(number),
-        TimestampAnswer::Timestamp(t) => Answer::number(0).with64(t.0),
+        TimestampAnswer::Refused(number) => Answer::number(number, end),
+        TimestampAnswer::Timestamp(t) => Answer::number(0, end).with64(t.0),
     }
 }
 
-pub(crate) fn precision(line: &[u8]) -> Answer {
-    match precision::precision_of_tick(read_be64(line, 1)) {
-        PrecisionAnswer::Refused(number) => Answer::number(number),
-        PrecisionAnswer::Precision(exponent) => Answer::number(0).with8(twos_complement::bits8(
+pub(crate) fn precision(line: &[u8], at: usize) -> Answer {
+    let tick = take64(line, at);
+    let end = tick.end;
+    match precision::precision_of_tick(tick.value) {
+        PrecisionAnswer::Refused(number) => Answer::number(number, end),
+        PrecisionAnswer::Precision(exponent) => Answer::number(0, end).with8(twos_complement::bits8(
             exponent,
         )),
     }
 }
 
-pub(crate) fn constants() -> Answer {
-    Answer::number(0)
+pub(crate) fn constants(at: usize) -> Answer {
+    Answer::number(0, at)
         .with64(Timestamp::ZERO.0)
         .with64(Timestamp::SECOND)
         .with_signed64(Timestamp::LIMIT)
 }
 
-pub(crate) fn halve(line: &[u8]) -> Answer {
-    let halves = offset::halve(twos_complement::signed64(read_be64(line, 1)));
-    Answer::number(0)
+pub(crate) fn halve(line: &[u8], at: usize) -> Answer {
+    let sum = take64(line, at);
+    let halves = offset::halve(twos_complement::signed64(sum.value));
+    Answer::number(0, sum.end)
         .with_signed64(halves.offset)
         .with8(halves.half)
 }

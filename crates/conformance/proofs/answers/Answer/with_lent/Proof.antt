@@ -5,10 +5,10 @@ use Rattle.conformance.proofs.answers.Answer.with_lent.Statement.{state
 use Rattle.conformance.proofs.answers.Answer.with_lent.Tie as tie
 
 abbrev Inv-loop : tie.InvT-loop
-Inv-loop count lent at octets₀ i₀ octets i = i ≤ count
+Inv-loop count lent at line-end octets₀ i₀ octets i = i ≤ count
 
 abbrev μ-loop : tie.MeasureT-loop
-μ-loop count lent at octets₀ i₀ octets i = count - i
+μ-loop count lent at line-end octets₀ i₀ octets i = count - i
 
 pub with-lent-spec : {M : Type 1} → statement M
 with-lent-spec =
