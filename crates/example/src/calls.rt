@@ -1,4 +1,4 @@
-// A client and a server of ours: the rules' exchange across 2036, a kiss, a give-up and a few refusals, a line a call.
+// The calls of a client and a server of ours, each with the line that tells what it answered.
 use crate::print::decimal;
 use crate::print::hexadecimal;
 use crate::print::measured;
@@ -23,17 +23,17 @@ fn show_call(next: Called) -> Client {
     next.client
 }
 
-fn show_ask(client: Client, packet: &mut [u8], clock: u64, uptime: u64) -> Client {
+pub(crate) fn ask(client: Client, packet: &mut [u8], clock: u64, uptime: u64) -> Client {
     text(b"ask: ");
     show_call(client.ask(packet, 4, Timestamp::from_units(clock), uptime))
 }
 
-fn show_give_up(client: Client, uptime: u64) -> Client {
+pub(crate) fn give_up(client: Client, uptime: u64) -> Client {
     text(b"give up: ");
     show_call(client.give_up(uptime))
 }
 
-fn show_answer(answer: ArrivalAnswer) {
+fn show_arrived(answer: ArrivalAnswer) {
     match answer {
         ArrivalAnswer::Refused(n) => refused(n),
         ArrivalAnswer::Accepted {
@@ -54,11 +54,11 @@ fn show_answer(answer: ArrivalAnswer) {
     }
 }
 
-fn show_arrival(client: Client, packet: &[u8], t4: u64) -> Client {
+pub(crate) fn arrival(client: Client, packet: &[u8], t4: u64) -> Client {
     text(b"arrival: ");
     let arrived = client.arrival(packet, Timestamp::from_units(t4));
     let answer = arrived.answer;
-    show_answer(answer);
+    show_arrived(answer);
     arrived.client
 }
 
@@ -90,7 +90,7 @@ fn show_fields(packet: &[u8]) {
     }
 }
 
-fn show_reply(request: &[u8], synchronised: bool, buffer: &mut [u8]) {
+pub(crate) fn reply(request: &[u8], synchronised: bool, buffer: &mut [u8]) {
     let settings = Settings {
         synchronised,
         leap: 0,
@@ -105,66 +105,4 @@ fn show_reply(request: &[u8], synchronised: bool, buffer: &mut [u8]) {
         ReplyAnswer::Refused(n) => refused(n),
         ReplyAnswer::Written => show_fields(buffer),
     }
-}
-
-const T1: u64 = 0xFFFF_FFFA_0000_0000;
-
-const T4: u64 = 0xFFFF_FFFB_C000_0000;
-
-// An exchange; then its reply a second time.
-fn exchange(request: &mut [u8], reply: &mut [u8]) -> Client {
-    let client = show_ask(Client::fresh(), request, T1, 0);
-    show_reply(request, true, reply);
-    let client = show_arrival(client, reply, T4);
-    show_arrival(client, reply, T4)
-}
-
-// Asks again, gets the old reply, and gives up: each too soon at first.
-fn no_reply(client: Client, request: &mut [u8], old: &[u8]) -> Client {
-    let client = show_ask(client, request, T4, 63);
-    let client = show_ask(client, request, T4, 64);
-    let client = show_arrival(client, old, T4);
-    let client = show_give_up(client, 79);
-    show_give_up(client, 80)
-}
-
-// The server is not synchronised: a kiss.
-fn kiss(client: Client, request: &mut [u8], reply: &mut [u8]) -> Client {
-    let client = show_ask(client, request, T1, 192);
-    show_reply(request, false, reply);
-    show_arrival(client, reply, T4)
-}
-
-// It stops the client for good.
-fn stopped(client: Client, request: &mut [u8]) {
-    let client = show_ask(client, request, T1, 100000);
-    show_give_up(client, 100000);
-}
-
-fn two_exchanges(request: &mut [u8], reply: &mut [u8]) -> Client {
-    let client = exchange(request, reply);
-    no_reply(client, request, reply)
-}
-
-fn kiss_and_stop(client: Client, request: &mut [u8], reply: &mut [u8]) {
-    let client = kiss(client, request, reply);
-    stopped(client, request);
-}
-
-// The server is lent too little room, sent too short a request, and sent one of mode 0.
-fn server_refusals() {
-    let request = [0u8; 48];
-    let mut reply = [0u8; 48];
-    let mut short = [0u8; 47];
-    show_reply(&request, true, &mut short);
-    show_reply(&short, true, &mut reply);
-    show_reply(&request, true, &mut reply);
-}
-
-pub(crate) fn run() {
-    let mut request = [0u8; 48];
-    let mut reply = [0u8; 48];
-    let client = two_exchanges(&mut request, &mut reply);
-    kiss_and_stop(client, &mut request, &mut reply);
-    server_refusals();
 }
