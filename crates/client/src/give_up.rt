@@ -5,7 +5,6 @@ ghost use Rattle.client.specs.GiveUp.{giveUpTests, gaveUp};
 use crate::CallAnswer;
 use crate::Called;
 use crate::Client;
-use crate::Phase;
 use poll::too_soon;
 use timestamp::Timestamp;
 
@@ -26,7 +25,7 @@ impl Client {
         0
     }
 
-    // Give up: the request has timed out, and the poll interval is doubled (RFC 4330, section 10).
+    // Give up: the request has timed out, and the client backs off (RFC 4330, section 10).
     pub fn give_up(self, uptime: u64) -> Called
         ensures { λ r. ⌜ r ≡ gaveUp self uptime ⌝ }
     {
@@ -39,7 +38,7 @@ impl Client {
         }
         Called {
             answer: CallAnswer::Done,
-            client: self.without_request(Phase::Idle, poll::backed_off(self.exponent)),
+            client: self.back_off(),
         }
     }
 }

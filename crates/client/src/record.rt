@@ -1,6 +1,6 @@
 // The phases, the fresh record, and which records are legal.
 ghost use mathlib.Core.Path.{_≡_};
-ghost use Rattle.client.specs.Record.{isIdle, isWaiting, isStopped, fresh, isFresh, illegal, withoutRequest};
+ghost use Rattle.client.specs.Record.{isIdle, isWaiting, isStopped, fresh, isFresh, illegal, withoutRequest, backOff};
 use crate::Client;
 use crate::Phase;
 use ordered_tests::between;
@@ -91,5 +91,12 @@ impl Client {
             uptime: self.uptime,
             exponent,
         }
+    }
+
+    // The client backs off: idle, with a poll interval twice as long, up to its limit.
+    pub(crate) fn back_off(self) -> Client
+        ensures { λ r. ⌜ r ≡ backOff self ⌝ }
+    {
+        self.without_request(Phase::Idle, poll::backed_off(self.exponent))
     }
 }

@@ -59,7 +59,7 @@ module _ (r : Run) (p : Premises ours r) where
 
   -- the client accepts it
   abbrev y : calls.Arrival
-  y = record { packet = octetsOf said; t4 = T4 e }
+  y = record { packet = octetsOf said; t4 = T4 e; alternate = r .alternate }
 
   abbrev with : Fields → Four
   with f = record { t1 = T1 e; t2 = f .receive; t3 = f .transmit; t4 = T4 e }
@@ -68,7 +68,7 @@ module _ (r : Run) (p : Premises ours r) where
   timely-rules o q = let t = timely e (p .orderly) in (t .arrived-after, (t .within-limit, (t .answered-after, (t .delay, (t .ranges, q)))))
 
   passes : Passes (arrivalRules w y) (accepted w y)
-  passes = matched served said (T4 e) (sanityRules w y) (accepted w y) of-reply refl refl refl (inr (
+  passes = matched served said (T4 e) (r .alternate) (sanityRules w y) (accepted w y) of-reply refl refl refl (inr (
     (λ z. let q = ap (λ f. f .stratum) of-reply in omega arith),
     (
       p .orderly .nonzero .3,
@@ -96,7 +96,7 @@ module _ (r : Run) (p : Premises ours r) where
 
   arrival-is : theArrival ours r ≡ accepted w y
   arrival-is =
-      (λ i. ours .does client (after-is i, arrival (record { packet = (reply-octets served ∙ octets-are) i; t4 = T4 e })))
+      (λ i. ours .does client (after-is i, arrival (record { packet = (reply-octets served ∙ octets-are) i; t4 = T4 e; alternate = r .alternate })))
       ∙ done-so client-meets (w, arrival y) (accepted w y) passes
 
   pub conclusions : Conclusions ours r

@@ -1,7 +1,7 @@
 -- An ask, our server's reply to the 48 octets that it wrote, and what the record that waits for it finds in that reply.
 use mathlib.Core.Path.{_≡_, refl, sym, ap, subst, _∙_}
 use mathlib.Core.Logic.{_≢_, inl}
-use mathlib.Core.Bool.{true}
+use mathlib.Core.Bool.{Bool, true}
 use mathlib.Core.List.{List, _++_}
 use Prim.Native.Nat.{ℕ, _%_, _^_, _≤_, _<_}
 use native.Mathlib.Omega.{arith}
@@ -194,9 +194,9 @@ module _ {c : Client} {x : calls.Ask} {s : Settings} {t2 t3 : Timestamp} {buffer
       ∙ ap (λ f. octetsOf (replyFields s f t2 t3)) of-request
 
   -- it answers the request of the record that waits for it: the rules up to a kiss
-  pub matched : (said : Fields) (t4 : Timestamp) (rest : Rules Outcome) (o : Outcome) → fieldsOf (octetsOf said) ≡ typed said → said .originate ≡ x .clock → said .mode ≡ 4 → said .version ≡ x .version
-      → Passes rest o → Passes (matchRules (waitingFor c (x .version) (x .clock) (x .uptime)) (record { packet = octetsOf said; t4 = t4 }) rest) o
-  matched said t4 rest o e originate mode version p = (
+  pub matched : (said : Fields) (t4 : Timestamp) (alternate : Bool) (rest : Rules Outcome) (o : Outcome) → fieldsOf (octetsOf said) ≡ typed said → said .originate ≡ x .clock → said .mode ≡ 4 → said .version ≡ x .version
+      → Passes rest o → Passes (matchRules (waitingFor c (x .version) (x .clock) (x .uptime)) (record { packet = octetsOf said; t4 = t4; alternate = alternate }) rest) o
+  matched said t4 alternate rest o e originate mode version p = (
     waiting-legal c (x .version) (x .clock) (x .uptime) (r .asked .legal) (r .asked .version) (r .asked .clock),
     (
       inl (length-octetsOf said),

@@ -1,7 +1,8 @@
--- An arrival at the client: a packet, and the reading T4.
-use Prim.Native.Nat.{_≤_, _<_}
+-- An arrival at the client: a packet, the reading T4, and whether an alternate server exists.
+use Prim.Native.Nat.{suc, min, _≤_, _<_}
 use mathlib.Core.Path.{_≡_}
 use mathlib.Core.Logic.{_≢_}
+use mathlib.Core.Bool.{cond}
 use lib.IntN.{pos}
 use lib.Signed.{_≤ℤ_, _<ℤ_}
 use Rattle.refusals.specs.Numbers.{record-not-legal, packet-length-wrong, not-waiting, originate-mismatch, reply-mode-wrong, version-mismatch, own-clock-zero, server-unsynchronised, stratum-too-high, server-timestamp-zero, root-delay-out-of-range, root-dispersion-too-large}
@@ -25,9 +26,12 @@ module _ (c : Client) (x : calls.Arrival) where
   abbrev pub four : Four
   four = record { t1 = c .transmit; t2 = f .receive; t3 = f .transmit; t4 = x .t4 }
 
-  -- a kiss: its code and row, and the client is stopped for good
+  -- a kiss stops the client for good where an alternate exists, and otherwise leaves it idle with the exponent one more, at most 14
+  abbrev pub afterKiss : Client
+  afterKiss = cond (x .alternate) (withoutRequest c Stopped (c .exponent)) (withoutRequest c Idle (min (suc (c .exponent)) 14))
+
   abbrev pub kissed : calls.Outcome
-  kissed = record { result = calls.kiss (f .identifier) (rowOf (f .identifier)); next = withoutRequest c Stopped (c .exponent); octets = x .packet }
+  kissed = record { result = calls.kiss (f .identifier) (rowOf (f .identifier)); next = afterKiss; octets = x .packet }
 
   abbrev pub accepted : calls.Outcome
   accepted = record { result = calls.accepted (offset four) (half four) (d four); next = withoutRequest c Idle 6; octets = x .packet }

@@ -3,7 +3,7 @@
 use Prim.Native.Nat.{ℕ, _+_, _-_, _^_, _≤_, _<_}
 use mathlib.Core.Path.{_≡_}
 use mathlib.Core.Logic.{_≢_}
-use mathlib.Core.Bool.{true}
+use mathlib.Core.Bool.{Bool, true}
 use mathlib.Core.List.{List, [], _∷_}
 use lib.Dec.{T}
 use lib.IntN.{ℤ, pos, natAbs, _+ℤ_, _-ℤ_}
@@ -100,6 +100,7 @@ pub record Run : Type 0 where
   pub settings : Settings
   pub replyBuffer : List ℕ
   pub calls : List Call
+  pub alternate : Bool  -- what the arrival of the reply is told
 
 module _ (b : Behaviour) where
   -- the call is refused by a listed number, and changes nothing
@@ -129,7 +130,7 @@ module _ (b : Behaviour) where
     theReply = b .does reply (record { settings = r .settings; request = take 48 (theAsk .octets); t2 = T2 e; t3 = T3 e; buffer = r .replyBuffer })
 
     abbrev pub theArrival : Outcome
-    theArrival = b .does client (after (theAsk .next) (r .calls), arrival (record { packet = take 48 (theReply .octets); t4 = T4 e }))
+    theArrival = b .does client (after (theAsk .next) (r .calls), arrival (record { packet = take 48 (theReply .octets); t4 = T4 e; alternate = r .alternate }))
 
     pub record Premises : Type 0 where
       pub orderly : Orderly e
@@ -149,6 +150,6 @@ module _ (b : Behaviour) where
       pub reply : theArrival .result ≡ accepted offset half (d (readings e))
       pub bound : pos (natAbs (twice offset +ℤ pos half -ℤ twice (trueDifference e))) ≤ℤ d (readings e)
 
-  -- One statement over every exchange, record, buffer, version, uptime, setting and list of calls.
+  -- One statement over every exchange, record, buffer, version, uptime, setting and list of calls, with or without an alternate.
   abbrev pub Demand3 : Type 0
   Demand3 = (r : Run) → Premises r → Conclusions r

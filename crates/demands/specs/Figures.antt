@@ -1,6 +1,7 @@
 -- The twelve figures that the rules mark to be proved, one table under one claim about the definitions.
 use Prim.Native.Nat.{ℕ, _+_, _-_, _*_, _^_}
 use mathlib.Core.Path.{_≡_}
+use mathlib.Core.Bool.{false}
 use mathlib.Core.List.{List, [], _∷_, _++_}
 use lib.IntN.{ℤ, pos, negℤ}
 use lib.ListN.{length, replicate, take}
@@ -41,7 +42,7 @@ Right (givesHalf t1 t2 t3 t4 offset half) = Begins (shown (measuredAt t1 t2 t3 t
 Right (givesOffset t1 t2 t3 t4 offset) = Begins (shown (measuredAt t1 t2 t3 t4)) (offset ∷ [])
 Right (refusedBy t1 t2 t3 t4 number) = measuredAt t1 t2 t3 t4 ≡ OffsetAnswer.Refused number
 Right (afterAsk clock packet t4 result) =
-    step (step fresh (ask (record { buffer = replicate 48 0; version = 4; clock = timestamp clock; uptime = 0 })) .next) (arrival (record { packet = packet; t4 = timestamp t4 })) .result
+    step (step fresh (ask (record { buffer = replicate 48 0; version = 4; clock = timestamp clock; uptime = 0 })) .next) (arrival (record { packet = packet; t4 = timestamp t4; alternate = false })) .result
     ≡ result
 Right (secondsAre seconds d) = dateOf (timestamp (seconds * 2 ^ 32)) ≡ DateAnswer.Date d
 Right (ticksGive tick p other q) =

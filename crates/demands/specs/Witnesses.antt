@@ -1,7 +1,7 @@
 -- Exchanges that meet the premises of demand 3: the one of the rules' replay, over 2036, and two at the edge of what is allowed.
 use Prim.Native.Nat.{ℕ, _+_, _-_, _^_}
 use mathlib.Core.Path.{_≡_}
-use mathlib.Core.Bool.{true}
+use mathlib.Core.Bool.{true, false}
 use mathlib.Core.List.{List, [], _∷_}
 use lib.IntN.{pos, negℤ}
 use lib.ListN.{replicate}
@@ -61,14 +61,14 @@ buffer = replicate 48 0
 abbrev pub calls : List Call
 calls =
     ask (record { buffer = buffer; version = 4; clock = timestamp 0xFFFFFFFA80000000; uptime = 1 })
-    ∷ arrival (record { packet = buffer; t4 = timestamp 0xFFFFFFFB00000000 })
-    ∷ arrival (record { packet = replicate 47 0; t4 = timestamp 0xFFFFFFFB40000000 })
+    ∷ arrival (record { packet = buffer; t4 = timestamp 0xFFFFFFFB00000000; alternate = true })
+    ∷ arrival (record { packet = replicate 47 0; t4 = timestamp 0xFFFFFFFB40000000; alternate = false })
     ∷ giveUp (record { uptime = 15 })
     ∷ []
 
 -- a fresh client asks in version 4 at uptime 0
 abbrev pub run : Exchange → Run
-run e = record { exchange = e; client = fresh; buffer = buffer; version = 4; uptime = 0; settings = settings; replyBuffer = buffer; calls = calls }
+run e = record { exchange = e; client = fresh; buffer = buffer; version = 4; uptime = 0; settings = settings; replyBuffer = buffer; calls = calls; alternate = true }
 
 pub record Witnesses : Type 0 where
   pub replay-met : Premises ours (run replay)

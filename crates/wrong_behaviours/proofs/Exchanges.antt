@@ -2,8 +2,8 @@
 use Prim.Native.Nat.{ℕ}
 use mathlib.Core.Path.{sym, subst}
 use mathlib.Core.Logic.{_≢_}
-use mathlib.Core.Bool.{Bool, false, not, _&&_}
-use mathlib.Core.List.{List, _++_}
+use mathlib.Core.Bool.{Bool, true, false, not, _&&_}
+use mathlib.Core.List.{List, _∷_, _++_}
 use native.Mathlib.Omega.{arith}
 use lib.Dec.{T, eqb, leb, le→leb}
 use lib.IntN.{ℤ, pos, negℤ, natAbs, _+ℤ_, _-ℤ_}
@@ -58,11 +58,15 @@ module _ (e : Exchange) where
   packet = take 48 (theReply ours (run e) .octets)
 
   abbrev pub replied : Client × Call
-  replied = (waiting, arrival (record { packet = packet; t4 = T4 e }))
+  replied = (waiting, arrival (record { packet = packet; t4 = T4 e; alternate = true }))
 
   -- the same reply with these root fields, at t4
   abbrev pub with-root : ℤ → ℕ → Timestamp → Client × Call
-  with-root delay dispersion t4 = (waiting, arrival (record { packet = take 4 packet ++ octets 4 (bits 32 delay) ++ octets 4 dispersion ++ drop 12 packet; t4 = t4 }))
+  with-root delay dispersion t4 = (waiting, arrival (record { packet = take 4 packet ++ octets 4 (bits 32 delay) ++ octets 4 dispersion ++ drop 12 packet; t4 = t4; alternate = true }))
+
+  -- the same reply with stratum 0: a kiss
+  abbrev pub with-kiss : Bool → Call
+  with-kiss alternate = arrival (record { packet = take 1 packet ++ (0 ∷ drop 2 packet); t4 = T4 e; alternate = alternate })
 
 -- ---- what is seen of an arrival
 

@@ -28,7 +28,8 @@ use Rattle.calendar.specs.Calendar.{dateOf, secondsAt, start1900, start2036, wi
 use Rattle.precision.specs.Precision.{least, precisionOf}
 use Rattle.poll.specs.Poll.{tooSoon}
 use Rattle.client.specs.declared.Client.{Client}
-use Rattle.client.specs.Record.{fresh, isWaiting, illegal}
+use Rattle.client.specs.declared.Phase.the-variants.{Waiting, Stopped}
+use Rattle.client.specs.Record.{fresh, isWaiting, isStopped, illegal}
 use Rattle.client.specs.Ask.{askTests, afterAsk, afterAskBuffer}
 use Rattle.request.specs.Request as requests
 use Rattle.client.specs.Arrival.{arrived}
@@ -54,10 +55,10 @@ use Rattle.ordered_tests.proofs.Reflection.{contradiction}
 use Rattle.demands.proofs.Form.{acceptance-shown, differs, unique}
 use Rattle.demands.proofs.Each.{each}
 use Rattle.demands.proofs.Witnesses.{orderly}
-use Rattle.wrong_behaviours.specs.Client.{refusing, alwaysWriting, takingNone, stayingWaiting, spending, kissFirst, unsignedTimes, rootUntested, negativeDelayUntested, dispersionSigned, rootSwapped, rootAfter15, fixing, measuring, zeroOffset, hugeDelay, halfLost, largeHalf, towardZero, halvedApart}
+use Rattle.wrong_behaviours.specs.Client.{refusing, alwaysWriting, anyVersion, takingNone, stayingWaiting, spending, alwaysStopping, neverStopping, kissFirst, unsignedTimes, rootUntested, negativeDelayUntested, dispersionSigned, rootSwapped, rootAfter15, fixing, measuring, zeroOffset, hugeDelay, halfLost, largeHalf, towardZero, halvedApart}
 use Rattle.wrong_behaviours.specs.Others.{neverReplying, wrongOriginate, fourthYearDates, fourthYearTimestamps, roundedDown, takingEntries, payingAll, refusingLines, droppingDigits, startingAfresh}
 use Rattle.wrong_behaviours.specs.Refuted.{withClient, withServer, Fails1, Fails2, Fails3, Refuted}
-use Rattle.wrong_behaviours.proofs.Exchanges.{slowBack, slowOut, bothOdd, otherServer, waiting, request, replied, with-root, tells-other, near, inBound, concluded, in-bound}
+use Rattle.wrong_behaviours.proofs.Exchanges.{slowBack, slowOut, bothOdd, otherServer, waiting, request, replied, with-root, with-kiss, tells-other, near, inBound, concluded, in-bound}
 
 -- no result is in the bound of two servers that are 2000 units apart
 not-both : (r : Result) → T (inBound slowBack r) → T (inBound otherServer r) → ⊥
@@ -161,6 +162,9 @@ module _ (f : Implementation clients.client) where
     in-bound-at : T (not (inBound e (theArrival (withClient f) (run e) .result))) → Fails3 (withClient f)
     in-bound-at other demand = contradiction (inBound e (theArrival (withClient f) (run e) .result)) (in-bound e o (withClient f) asked demand) other
 
+waiting-runs : Waiting ≢ Stopped
+waiting-runs e = subst (λ p. T (not (isStopped p))) e tt
+
 abbrev accepted-ask : acceptance ≢ refusal
 accepted-ask = acceptance-shown .0
 
@@ -174,6 +178,8 @@ refuted =
       refuses-everything = λ number. back (refusing number) tt;
       refuses-by-0 = λ demand. demand .listed (fresh, giveUp (record { uptime = 0 })) refl;
       never-asks = λ number r p. absurd (p .ask-accepted refl);
+      any-version = differs (each client .answers) (fresh, ask (record { buffer = buffer; version = 5; clock = T4 slowBack; uptime = 0 })) (λ o. eqb (number o) 0) tt tt;
+      fresh-with-uptime = λ demand. let e = ap (λ (c : Client). c .uptime) (demand .fresh-record) in omega arith;
       takes-no-reply = λ number. (back (takingNone number) tt, in-bound-at (takingNone number) slowBack at-back accepted-ask tt);
       stays-waiting = back stayingWaiting tt;
       offset-zero = (back (measuring zeroOffset) tt, in-bound-at (measuring zeroOffset) slowBack at-back accepted-ask tt);
@@ -194,9 +200,14 @@ refuted =
             (in-bound otherServer (orderly otherServer tt) (withClient (fixing guess)) accepted-ask demand)),
       );
       unsigned-times = (over-2036 unsignedTimes tt, in-bound-at unsignedTimes replay (orderly replay tt) accepted-ask tt);
+      always-stops = (
+        differs (each client .answers) (waiting slowBack, with-kiss slowBack false) (λ o. isStopped (o .next .phase)) tt tt,
+        (λ law. law (waiting slowBack) (with-kiss slowBack false ∷ []) waiting-runs (refl, tt) refl),
+      );
+      never-stops = differs (each client .answers) (waiting slowBack, with-kiss slowBack true) (λ o. not (isStopped (o .next .phase))) tt tt;
       -- a packet of 48 zero octets, which a stranger sent
       kiss-before-originate = (
-        differs (each client .answers) (waiting slowBack, arrival (record { packet = buffer; t4 = T4 slowBack })) (λ o. eqb (number o) 0) tt tt,
+        differs (each client .answers) (waiting slowBack, arrival (record { packet = buffer; t4 = T4 slowBack; alternate = true })) (λ o. eqb (number o) 0) tt tt,
         in-bound-at kissFirst slowBack at-back accepted-ask tt,
       );
       root-untested = tells rootUntested (with-root slowBack (negsuc 0) 0 (T4 slowBack)) 0 tt tt;
@@ -205,7 +216,7 @@ refuted =
       root-swapped = tells rootSwapped (with-root slowBack (negsuc 0) 65536 (T4 slowBack)) 34 tt tt;
       root-after-15 = tells rootAfter15 (with-root slowBack (negsuc 0) 0 (timestamp 4999)) 15 tt tt;
       spends-the-request = (
-        (λ demand. subst (λ (o : Outcome). T (not (isWaiting (o .next .phase)))) (demand .unchanged (waiting slowBack, arrival (record { packet = []; t4 = T4 slowBack })) refl) tt),
+        (λ demand. subst (λ (o : Outcome). T (not (isWaiting (o .next .phase)))) (demand .unchanged (waiting slowBack, arrival (record { packet = []; t4 = T4 slowBack; alternate = true })) refl) tt),
         in-bound-at spending slowBack at-back accepted-ask tt,
       );
       writes-when-refused = (

@@ -1,6 +1,6 @@
 -- Wrong clients (docs/RULES.md, "Slips that look reasonable" and "How much each public function must say"). Each does what ours does but for one thing.
-use Prim.Native.Nat.{ℕ, _+_, _^_}
-use mathlib.Core.Bool.{cond, not}
+use Prim.Native.Nat.{ℕ, min, _+_, _^_}
+use mathlib.Core.Bool.{Bool, true, false, cond, not}
 use mathlib.Core.List.{List, [], _++_}
 use lib.Dec.{eqb}
 use lib.IntN.{ℤ, pos, _+ℤ_, _-ℤ_}
@@ -10,7 +10,7 @@ use Rattle.arithmetic.specs.TwosComplement.{signed}
 use Rattle.refusals.specs.Numbers.{record-not-legal, packet-length-wrong, not-waiting, arrived-before-sent, root-delay-out-of-range, root-dispersion-too-large}
 use Rattle.ordered_tests.specs.Tests.{Tests, _if_else_, _when_else_, answer, kept, carry}
 use Rattle.timestamp.specs.declared.Timestamp.{Timestamp}
-use Rattle.timestamp.specs.Timestamp.{_since_, negative}
+use Rattle.timestamp.specs.Timestamp.{timestamp, _since_, negative}
 use Rattle.offset.specs.Offset.{floorHalf, offsetTests}
 use Rattle.packet.specs.declared.Fields.{Fields}
 use Rattle.packet.specs.Packet.{wrongLength, fieldsOf}
@@ -29,6 +29,10 @@ use Rattle.demands.specs.Client.{client}
 use Rattle.demands.specs.Arrival.{four}
 use Rattle.demands.specs.Measure.{Four, P, Q, d, offset, half}
 
+-- a record of a client that has never asked, with an uptime
+abbrev pub laterStart : Client
+laterStart = record { phase = Idle; transmit = timestamp 0; version = 0; asked = false; uptime = 1; exponent = 6 }
+
 -- ---- at every call
 
 -- it refuses everything, by whatever numbers
@@ -43,6 +47,14 @@ asksFor (giveUp x) = []
 
 abbrev pub alwaysWriting : Implementation client
 alwaysWriting (c, x) = record { result = step c x .result; next = step c x .next; octets = asksFor x }
+
+-- ---- at an ask
+
+-- it takes a version above 4 for 4
+abbrev pub anyVersion : Implementation client
+anyVersion (c, ask x) = step c (ask (record { buffer = x .buffer; version = min (x .version) 4; clock = x .clock; uptime = x .uptime }))
+anyVersion (c, arrival x) = step c (arrival x)
+anyVersion (c, giveUp x) = step c (giveUp x)
 
 -- ---- at an arrival
 
@@ -70,12 +82,24 @@ spending = arriving (λ c x. record {
   octets = x .packet;
 })
 
+-- it takes it that an alternate exists, or that none does, whatever it is told
+abbrev supposing : Bool → Implementation client
+supposing alternate = arriving (λ c x. step c (arrival (record { packet = x .packet; t4 = x .t4; alternate = alternate })))
+
+-- a kiss always stops it
+abbrev pub alwaysStopping : Implementation client
+alwaysStopping = supposing true
+
+-- no kiss stops it
+abbrev pub neverStopping : Implementation client
+neverStopping = supposing false
+
 -- ---- at an arrival, by another table of tests
 
 abbrev testing : (Client → Arrival → Tests ArrivalAnswer) → Implementation client
 testing tests = arriving (λ c x.
     let a = answer ArrivalAnswer.Refused (tests c x) in
-    record { result = saidArrival a; next = after c a; octets = x .packet })
+    record { result = saidArrival a; next = after c (x .alternate) a; octets = x .packet })
 
 abbrev kissed : Fields → ArrivalAnswer
 kissed f = ArrivalAnswer.Kiss (f .identifier) (rowOf (f .identifier))

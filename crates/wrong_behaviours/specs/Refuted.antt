@@ -12,8 +12,10 @@ use Rattle.demands.specs.Reply as replies
 use Rattle.demands.specs.Reply.{Request}
 use Rattle.demands.specs.Line.{carrying}
 use Rattle.demands.specs.Behaviour.{Operation, client, reply, measure, read, write, date, timestamp, precision, entry, tick, line, form, Behaviour, ours}
+use Rattle.demands.specs.Demand2.{Demand2}
 use Rattle.demands.specs.Demand3.{Demand3}
-use Rattle.wrong_behaviours.specs.Client.{refusing, alwaysWriting, takingNone, stayingWaiting, spending, kissFirst, unsignedTimes, rootUntested, negativeDelayUntested, dispersionSigned, rootSwapped, rootAfter15, fixing, measuring, zeroOffset, hugeDelay, halfLost, largeHalf, towardZero, halvedApart}
+use Rattle.demands.specs.SingleServer.{NeverStops}
+use Rattle.wrong_behaviours.specs.Client.{laterStart, refusing, alwaysWriting, anyVersion, takingNone, stayingWaiting, spending, alwaysStopping, neverStopping, kissFirst, unsignedTimes, rootUntested, negativeDelayUntested, dispersionSigned, rootSwapped, rootAfter15, fixing, measuring, zeroOffset, hugeDelay, halfLost, largeHalf, towardZero, halvedApart}
 use Rattle.wrong_behaviours.specs.Others.{neverReplying, wrongOriginate, replyingAnyway, readingNothing, writingNothing, fourthYearDates, fourthYearTimestamps, roundedDown, refusingEntries, takingEntries, payingAll, refusingLines, droppingDigits, startingAfresh}
 
 -- ours with this client
@@ -50,6 +52,10 @@ serverOf f line = ours .does line
 abbrev pub withServer : Implementation replies.reply → Behaviour
 withServer f = record { fresh = ours .fresh; opened = ours .opened; does = serverOf f }
 
+-- ours with this record for a client that has never asked
+abbrev pub withFresh : Client → Behaviour
+withFresh c = record { fresh = c; opened = ours .opened; does = ours .does }
+
 -- ---- the demands that fail
 
 abbrev pub Fails1 : (x : Operation) → Implementation (form x) → Type 0
@@ -74,6 +80,8 @@ pub record Refuted : Type 0 where
   pub refuses-by-0 : Fails1 client (refusing (λ c x. 0))
   -- demand 3 alone lets one pass that never asks: its premise is an ask that was not refused
   pub never-asks : (number : Client → Call → ℕ) → Demand3 (withClient (refusing number))
+  pub any-version : Fails2 client anyVersion
+  pub fresh-with-uptime : Demand2 (withFresh laterStart) → ⊥
   pub takes-no-reply : (number : Client → Arrival → ℕ) → Client23 (takingNone number)
   pub stays-waiting : Fails2 client stayingWaiting
   pub offset-zero : Client23 (measuring zeroOffset)
@@ -84,6 +92,8 @@ pub record Refuted : Type 0 where
   pub halved-apart : Client23 (measuring halvedApart)
   pub fixed-when-asking : (guess : Client → Timestamp → ℤ → Result) → Client23 (fixing guess)
   pub unsigned-times : Client23 unsignedTimes
+  pub always-stops : Fails2 client alwaysStopping × (NeverStops (withClient alwaysStopping) → ⊥)
+  pub never-stops : Fails2 client neverStopping
   pub kiss-before-originate : Client23 kissFirst
   pub root-untested : Fails2 client rootUntested
   pub negative-delay-untested : Fails2 client negativeDelayUntested
