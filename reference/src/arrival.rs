@@ -1,6 +1,6 @@
 //! The arrival of a packet at the client: docs/RULES.md, "The client".
 
-use crate::client::{Client, LEAST_EXPONENT, Phase, legal, without_request};
+use crate::client::{Client, LEAST_EXPONENT, Phase, legal, raised, without_request};
 use crate::kiss;
 use crate::packet::{self, Fields};
 use crate::refusal::Refusal::{self, *};
@@ -23,7 +23,13 @@ pub struct Arrived {
     pub client: Client,
 }
 
-pub fn arrival(client: &Client, packet: &[u8], t4: u64) -> Result<Arrived, Refusal> {
+/// `alternate` says whether there is another server to go to, and is looked at in a kiss alone.
+pub fn arrival(
+    client: &Client,
+    packet: &[u8],
+    t4: u64,
+    alternate: bool,
+) -> Result<Arrived, Refusal> {
     RecordNotLegal.when(!legal(client))?;
     let fields = packet::read(packet)?;
     NotWaiting.when(client.phase != Phase::Waiting)?;
@@ -31,7 +37,7 @@ pub fn arrival(client: &Client, packet: &[u8], t4: u64) -> Result<Arrived, Refus
     ReplyModeWrong.when(fields.mode != 4)?;
     VersionMismatch.when(fields.version != client.version)?;
     if fields.stratum == 0 {
-        return Ok(kissed(client, fields.identifier));
+        return Ok(kissed(client, fields.identifier, alternate));
     }
     OwnClockZero.when(t4 == 0)?;
     test_fields(&fields)?;
@@ -40,8 +46,13 @@ pub fn arrival(client: &Client, packet: &[u8], t4: u64) -> Result<Arrived, Refus
     Ok(Arrived { told: Told::Accepted(measured), client })
 }
 
-fn kissed(client: &Client, code: [u8; 4]) -> Arrived {
-    let client = without_request(client, Phase::Stopped, client.exponent);
+/// With an alternate the client stops; without one it backs off.
+fn kissed(client: &Client, code: [u8; 4], alternate: bool) -> Arrived {
+    let client = if alternate {
+        without_request(client, Phase::Stopped, client.exponent)
+    } else {
+        without_request(client, Phase::Idle, raised(client.exponent))
+    };
     Arrived { told: Told::Kiss { code, row: kiss::row(code) }, client }
 }
 

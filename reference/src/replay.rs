@@ -15,6 +15,8 @@ pub const GIVE_UP: u8 = 0xA3;
 pub const KISS: u8 = 0xE0;
 /// The version that a replayed client asks by.
 pub const VERSION: u8 = 4;
+/// In a replay there is no other server to go to.
+const ALTERNATE: bool = false;
 /// Octets before a packet: operation, uptime, clock.
 pub const BEFORE_PACKET: usize = 1 + 8 + 8;
 pub const LONGEST_PACKET: usize = LENGTH_WITH_AUTHENTICATOR;
@@ -61,7 +63,7 @@ fn call(client: &mut Client, line: &[u8], out: &mut Vec<u8>) -> Result<(), Refus
             out.extend(packet);
         }
         Frame::Arrival { clock, packet } => {
-            let arrived = arrival(client, packet, clock)?;
+            let arrived = arrival(client, packet, clock, ALTERNATE)?;
             *client = arrived.client;
             put_told(&arrived.told, out);
         }

@@ -30,7 +30,7 @@ const GOOD: Fields = Fields {
 /// Both root fields out of range.
 const BAD_ROOTS: Fields = Fields { root_delay: -1, root_dispersion: u32::MAX, ..GOOD };
 
-#[derive(PartialEq, Debug)]
+#[derive(Clone, Copy, PartialEq, Debug)]
 enum Outcome {
     Refused(Refusal),
     Accepted,
@@ -38,12 +38,21 @@ enum Outcome {
 }
 use Outcome::*;
 
-/// The arrival of a packet with these fields; the record after it is looked at too.
+/// The arrival of a packet with these fields, which is the same with an alternate and without one.
 fn outcome(fields: Fields, t4: u64) -> Outcome {
+    let outcomes = [true, false].map(|alternate| outcome_with(alternate, fields, t4));
+    assert_eq!(outcomes[0], outcomes[1]);
+    outcomes[0]
+}
+
+/// The outcome; the record after it is looked at too.
+fn outcome_with(alternate: bool, fields: Fields, t4: u64) -> Outcome {
     let mut octets = [0; 48];
     packet::write(&fields, &mut octets).unwrap();
     let idle = Client { asked: true, uptime: 100, ..FRESH };
-    match arrival(&WAITING, &octets, t4) {
+    let stopped = Client { phase: Phase::Stopped, ..idle };
+    let backed_off = Client { exponent: 7, ..idle };
+    match arrival(&WAITING, &octets, t4, alternate) {
         Err(refusal) => Refused(refusal),
         Ok(arrived) => match arrived.told {
             Told::Accepted(_) => {
@@ -51,7 +60,7 @@ fn outcome(fields: Fields, t4: u64) -> Outcome {
                 Accepted
             }
             Told::Kiss { code, row } => {
-                assert_eq!(arrived.client, Client { phase: Phase::Stopped, ..idle });
+                assert_eq!(arrived.client, if alternate { stopped } else { backed_off });
                 assert_eq!(code, fields.identifier);
                 Kiss(row)
             }
@@ -90,7 +99,7 @@ fn timestamps() {
 
 #[test]
 fn lengths_and_phases() {
-    let arrived = |client, length: usize| arrival(&client, &vec![0; length], T).err();
+    let arrived = |client, length: usize| arrival(&client, &vec![0; length], T, false).err();
     assert_eq!(arrived(WAITING, 47), Some(PacketLengthWrong));
     assert_eq!(arrived(FRESH, 47), Some(PacketLengthWrong));
     assert_eq!(arrived(FRESH, 48), Some(NotWaiting));
@@ -158,5 +167,20 @@ fn root_fields_come_before_timestamps() {
         assert_eq!(with(65536, 0), Refused(RootDelayOutOfRange));
         assert_eq!(with(0, 65536), Refused(RootDispersionTooLarge));
         assert_eq!(with(65535, 65535), Refused(refusal));
+    }
+}
+
+#[test]
+fn kisses_at_each_exponent() {
+    let mut kiss = [0; 48];
+    packet::write(&Fields { stratum: 0, identifier: *b"RATE", ..GOOD }, &mut kiss).unwrap();
+    for (exponent, raised) in (6..=14).zip([7, 8, 9, 10, 11, 12, 13, 14, 14]) {
+        let waiting = Client { exponent, ..WAITING };
+        let idle = Client { asked: true, uptime: 100, ..FRESH };
+        let without = arrival(&waiting, &kiss, T, false).unwrap();
+        let with = arrival(&waiting, &kiss, T, true).unwrap();
+        assert_eq!(without.told, with.told);
+        assert_eq!(without.client, Client { exponent: raised, ..idle });
+        assert_eq!(with.client, Client { phase: Phase::Stopped, exponent, ..idle });
     }
 }

@@ -50,26 +50,44 @@ fn buffers_are_shown() {
     assert_eq!(text, format!("00FF{}8A8B", "00".repeat(47)));
 }
 
+const FRESH: &str = "0000000000000000000000000000000000000006";
+const WAITING: &str = "01FFFFFFFA000000000401000000000000000706";
+const IDLE: &str = "0000000000000000000001000000000000000706";
+const RAISED: &str = "0000000000000000000001000000000000000707";
+const STOPPED: &str = "0200000000000000000001000000000000000706";
+const REPLY: &str = "240100EC0000000000000000475053000000000400000000FFFFFFFA0000000000000004800000000000000580000000";
+
 #[test]
-fn calls_on_records() {
-    let fresh = "0000000000000000000000000000000000000006";
-    let clock = "FFFFFFFA00000000";
-    let text = one(&format!("08{fresh}3004{clock}0000000000000007"));
-    let waiting = format!("01{clock}0401000000000000000706");
-    assert_eq!(text, format!("00{waiting}23{}{clock}", "00".repeat(39)));
-    let reply = "240100EC0000000000000000475053000000000400000000FFFFFFFA0000000000000004800000000000000580000000";
-    let text = one(&format!("09{waiting}FFFFFFFBC0000000{reply}"));
-    let idle = "0000000000000000000001000000000000000706";
-    assert_eq!(text, format!("01000000000A200000000000000000C00000000000000000{idle}"));
-    let kiss = reply.replacen("2401", "2400", 1).replacen("47505300", "52415445", 1);
-    let text = one(&format!("09{waiting}0000000000000000{kiss}"));
-    let stopped = "0200000000000000000001000000000000000706";
-    assert_eq!(text, format!("0200{}524154450C{stopped}", "00".repeat(17)));
-    let text = one(&format!("09{waiting}0000000000000000{reply}"));
-    assert_eq!(text, format!("0003{}{waiting}", "00".repeat(22)));
-    let text = one(&format!("0A{waiting}0000000000000017"));
-    assert_eq!(text, "000000000000000000000001000000000000000707");
-    assert_eq!(one(&format!("0A{waiting}0000000000000016")), format!("14{waiting}"));
+fn asks() {
+    let text = one(&format!("08{FRESH}3004FFFFFFFA000000000000000000000007"));
+    assert_eq!(text, format!("00{WAITING}23{}FFFFFFFA00000000", "00".repeat(39)));
+}
+
+#[test]
+fn arrivals() {
+    for alternate in ["00", "01"] {
+        let text = one(&format!("09{WAITING}FFFFFFFBC0000000{alternate}{REPLY}"));
+        assert_eq!(text, format!("01000000000A200000000000000000C00000000000000000{IDLE}"));
+        let text = one(&format!("09{WAITING}0000000000000000{alternate}{REPLY}"));
+        assert_eq!(text, format!("0003{}{WAITING}", "00".repeat(22)));
+    }
+    assert_eq!(one(&format!("09{WAITING}FFFFFFFBC000000002{REPLY}")), "40");
+    assert_eq!(one(&format!("09{WAITING}FFFFFFFBC0000000")), "40");
+}
+
+#[test]
+fn kisses() {
+    let kiss = REPLY.replacen("2401", "2400", 1).replacen("47505300", "52415445", 1);
+    for (alternate, next) in [("00", RAISED), ("01", STOPPED)] {
+        let text = one(&format!("09{WAITING}0000000000000000{alternate}{kiss}"));
+        assert_eq!(text, format!("0200{}524154450C{next}", "00".repeat(17)));
+    }
+}
+
+#[test]
+fn give_ups() {
+    assert_eq!(one(&format!("0A{WAITING}0000000000000017")), format!("00{RAISED}"));
+    assert_eq!(one(&format!("0A{WAITING}0000000000000016")), format!("14{WAITING}"));
     let illegal = "0000000000000000000000000000000000000007";
     assert_eq!(one(&format!("0A{illegal}0000000000000016")), format!("1D{illegal}"));
 }

@@ -1,22 +1,14 @@
 //! What the generators reach, and what the counts name where something is missing.
 
-use reference::count::{self, Counter};
-use reference::{conformance, generate, replay};
+use reference::{conformance, count, generate, replay};
 use std::io::{self, BufRead};
 
 type Generate = fn(u64, u64, bool, &mut Vec<u8>) -> io::Result<()>;
-type Answer = fn(&[u8], &mut Vec<u8>) -> io::Result<()>;
 
 fn lines_of(generate: Generate, count: u64, seed: u64) -> Vec<u8> {
     let mut lines = Vec::new();
     generate(count, seed, seed.is_multiple_of(2), &mut lines).unwrap();
     lines
-}
-
-fn count_lines(counter: &mut Counter, answer: Answer, lines: &[u8]) {
-    let mut answers = Vec::new();
-    answer(lines, &mut answers).unwrap();
-    counter.count(lines, &answers[..]).unwrap();
 }
 
 fn conformance_lines(seed: u64) -> Vec<u8> {
@@ -27,16 +19,18 @@ fn conformance_lines(seed: u64) -> Vec<u8> {
     )
 }
 
-fn replay_lines(seed: u64) -> Vec<u8> {
-    lines_of(|count, seed, open, out| generate::replay::run(count, seed, open, out), 12_500, seed)
+fn replay_lines(count: u64, seed: u64) -> Vec<u8> {
+    lines_of(|count, seed, open, out| generate::replay::run(count, seed, open, out), count, seed)
 }
 
 #[test]
 fn conformance_lines_reach_everything() {
     for seed in [1, 2] {
         let lines = conformance_lines(seed);
+        let mut answers = Vec::new();
+        conformance::run(&lines[..], &mut answers).unwrap();
         let mut counter = count::conformance::counter();
-        count_lines(&mut counter, |lines, out| conformance::run(lines, out), &lines);
+        counter.count(&lines[..], &answers[..]).unwrap();
         assert_eq!(counter.missing(), Vec::<String>::new());
     }
 }
@@ -45,30 +39,33 @@ fn conformance_lines_reach_everything() {
 fn the_same_seed_gives_the_same_lines() {
     assert!(conformance_lines(3) == conformance_lines(3));
     assert!(conformance_lines(3) != conformance_lines(4));
-    assert!(replay_lines(3) == replay_lines(3));
+    assert!(replay_lines(20_000, 3) == replay_lines(20_000, 3));
 }
 
-fn count_replays(seeds: impl IntoIterator<Item = u64>) -> Vec<String> {
+/// The rows that never occurred in a stream whose answers are changed as given.
+fn missing_in_replay(seed: u64, change: impl Fn(String) -> String) -> Vec<String> {
+    let lines = replay_lines(50_000, seed);
+    let mut answers = Vec::new();
+    replay::run(&lines[..], &mut answers).unwrap();
+    let answers = change(String::from_utf8(answers).unwrap());
     let mut counter = count::replay::counter();
-    for seed in seeds {
-        count_lines(&mut counter, |lines, out| replay::run(lines, out), &replay_lines(seed));
-    }
+    counter.count(&lines[..], answers.as_bytes()).unwrap();
     counter.missing()
 }
 
 #[test]
-fn sixteen_replays_reach_everything() {
-    assert_eq!(count_replays(1..=16), Vec::<String>::new());
-    assert_eq!(count_replays(37..53), Vec::<String>::new());
+fn each_replay_stream_reaches_everything() {
+    for seed in 1..=6 {
+        assert_eq!(missing_in_replay(seed, |answers| answers), Vec::<String>::new());
+    }
 }
 
 #[test]
 fn replays_that_miss_a_kiss_row_are_found() {
-    assert_eq!(count_replays(2..=16), ["A2 kiss-01"]);
-    assert_eq!(count_replays(1..=15), ["A2 kiss-00"]);
-    let without_kisses = count_replays([15, 31]);
-    assert_eq!(without_kisses.len(), 16);
-    assert_eq!(without_kisses[0], "A1 04");
+    let without_deny = |answers: String| answers.replace("E044454E59", "E044454E58");
+    assert_eq!(missing_in_replay(1, without_deny), ["A2 kiss-06"]);
+    let without_kisses = |answers: String| answers.replace("E0", "09");
+    assert_eq!(missing_in_replay(2, without_kisses).len(), 15);
 }
 
 /// What counting one line and one answer says.

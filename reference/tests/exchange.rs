@@ -72,7 +72,8 @@ fn refused_call(r: &mut Random, waiting: &Client) {
             }
             add_fault(r, Fault::By(OriginateMismatch), t1, &mut other);
             let packet = octets_of(&other.fields);
-            assert_eq!(arrival(waiting, &packet, other.t4), Err(OriginateMismatch));
+            let arrived = arrival(waiting, &packet, other.t4, r.one_in(2));
+            assert_eq!(arrived, Err(OriginateMismatch));
         }
     }
 }
@@ -87,7 +88,7 @@ fn keeps_the_bound(r: &mut Random, exchange: &Exchange) {
     for _ in 0..r.below(6) {
         refused_call(r, &waiting);
     }
-    match arrival(&waiting, &answer, t4).unwrap().told {
+    match arrival(&waiting, &answer, t4, r.one_in(2)).unwrap().told {
         Told::Accepted(m) => {
             let twice = 2 * i128::from(m.offset) + i128::from(m.half);
             assert!((twice - 2 * exchange.difference).abs() <= i128::from(m.delay));

@@ -74,11 +74,13 @@ fn long_lines_do_not_stop_it() {
 }
 
 #[test]
-fn a_kiss_stops_the_client() {
-    let ask = "A1000000000000000000000000000000AA\n";
+fn after_a_kiss_the_client_asks_again_later() {
+    let ask = |uptime: u64| format!("A1{uptime:016X}00000000000000AA\n");
     let head = format!("A2{}", "00".repeat(16));
     let kiss = format!("24{}44454E59{}AA{}\n", "00".repeat(11), "00".repeat(15), "00".repeat(16));
-    let answers = replay(format!("{ask}{head}{kiss}{ask}").as_bytes());
-    let tail: Vec<&str> = answers.lines().skip(1).collect();
-    assert_eq!(tail, ["E044454E59", "04"]);
+    let frames = [ask(0), head + &kiss, ask(64), ask(127), ask(128)];
+    let answers = replay(frames.concat().as_bytes());
+    let answers: Vec<&str> = answers.lines().collect();
+    assert_eq!(answers[1..4], ["E044454E59", "06", "06"]);
+    assert!(answers[4].starts_with("0023"));
 }

@@ -32,8 +32,8 @@ pub fn put_answer(call: &Call, out: &mut Vec<u8>) {
         Call::Ask { client, n, version, clock, uptime } => {
             put_asked(client, n, out, |buffer| ask(&client, buffer, version, clock, uptime));
         }
-        Call::Arrival { client, t4, packet } => {
-            put_arrival(client, arrival(&client, packet, t4), out);
+        Call::Arrival { client, t4, alternate, packet } => {
+            put_arrival(client, arrival(&client, packet, t4, alternate), out);
         }
         Call::GiveUp { client, uptime } => put_next(client, give_up(&client, uptime), out),
         Call::Reply { ref settings, t2, t3, n, request } => {

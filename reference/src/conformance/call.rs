@@ -12,6 +12,16 @@ pub const LONGEST: u8 = 80;
 /// Octets of the longest line, a reply to the longest packet.
 pub const LONGEST_LINE: usize = 1 + 32 + LONGEST as usize;
 
+/// Places in a line of octets that not every value fits: of a client's record, of the alternate in
+/// an arrival, of the buffer's length n, and of the server's settings.
+pub const PHASE_AT: usize = 1;
+pub const ASKED_AT: usize = 11;
+pub const ALTERNATE_AT: usize = 29;
+pub const N_OF_WRITE_AT: usize = 1;
+pub const N_OF_ASK_AT: usize = 21;
+pub const N_OF_REPLY_AT: usize = 32;
+pub const SYNCHRONISED_AT: usize = 1;
+
 /// A call with its arguments. `n` is the length of the buffer that is lent to it.
 #[derive(Clone, Copy, PartialEq, Eq, Debug)]
 pub enum Call<'a> {
@@ -23,7 +33,7 @@ pub enum Call<'a> {
     TimestampOfDate { date: Date },
     Precision { tick: u64 },
     Ask { client: Client, n: u8, version: u8, clock: u64, uptime: u64 },
-    Arrival { client: Client, t4: u64, packet: &'a [u8] },
+    Arrival { client: Client, t4: u64, alternate: bool, packet: &'a [u8] },
     GiveUp { client: Client, uptime: u64 },
     Reply { settings: Settings, t2: u64, t3: u64, n: u8, request: &'a [u8] },
     Entry { debt: i64, offset: i64, half: u8 },
@@ -62,7 +72,7 @@ pub fn lengths(operation: u8) -> Option<(usize, usize)> {
         0x06 => (13, 13),
         0x07 => (8, 8),
         0x08 => (38, 38),
-        0x09 => (28, 28 + longest),
+        0x09 => (29, 29 + longest),
         0x0A => (28, 28),
         0x0B => (32, 32 + longest),
         0x0C => (17, 17),
@@ -95,7 +105,12 @@ fn read_ask<'a>(octets: &mut Reader<'a>) -> Result<Call<'a>, Malformed> {
 }
 
 fn read_arrival<'a>(octets: &mut Reader<'a>) -> Result<Call<'a>, Malformed> {
-    Ok(Call::Arrival { client: read_client(octets)?, t4: octets.u64()?, packet: octets.rest() })
+    Ok(Call::Arrival {
+        client: read_client(octets)?,
+        t4: octets.u64()?,
+        alternate: read_flag(octets)?,
+        packet: octets.rest(),
+    })
 }
 
 fn read_reply<'a>(octets: &mut Reader<'a>) -> Result<Call<'a>, Malformed> {
@@ -180,7 +195,9 @@ impl<'a> Call<'a> {
                 line.extend([n, version]);
                 put_numbers([clock, uptime], line);
             }
-            Call::Arrival { ref client, t4, packet } => put_arrival(client, t4, packet, line),
+            Call::Arrival { ref client, t4, alternate, packet } => {
+                put_arrival(client, t4, alternate, packet, line);
+            }
             Call::GiveUp { ref client, uptime } => {
                 put_client(client, line);
                 put_numbers([uptime], line);
@@ -199,9 +216,10 @@ impl<'a> Call<'a> {
     }
 }
 
-fn put_arrival(client: &Client, t4: u64, packet: &[u8], line: &mut Vec<u8>) {
+fn put_arrival(client: &Client, t4: u64, alternate: bool, packet: &[u8], line: &mut Vec<u8>) {
     put_client(client, line);
     put_numbers([t4], line);
+    line.push(alternate.into());
     line.extend(packet);
 }
 

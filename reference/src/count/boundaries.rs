@@ -79,7 +79,9 @@ impl Boundaries {
             Call::Ask { ref client, n, version, clock, uptime } => {
                 client::ask(m, client, outcome, (n, version, clock, uptime));
             }
-            Call::Arrival { ref client, t4, packet } => {
+            Call::Arrival { ref client, t4, alternate, packet } => {
+                arrival::alternates(m, alternate, outcome);
+                arrival::kisses(m, client, alternate, answer, outcome);
                 arrival::arrival(m, client, t4, packet, answer, outcome);
             }
             Call::GiveUp { ref client, uptime } => {

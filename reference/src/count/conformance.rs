@@ -2,7 +2,7 @@
 
 use super::outcome::Outcome;
 use super::{Counter, Pair, Row};
-use crate::conformance::call::{Call, Malformed, lengths};
+use crate::conformance::call::{ALTERNATE_AT, ASKED_AT, Call, Malformed, lengths};
 use crate::hex_lines::value;
 use crate::kiss::CODES;
 use crate::refusal::Refusal::{self, *};
@@ -75,8 +75,9 @@ const REPLY_REFUSALS: [Refusal; 7] = [
     AnsweredBeforeReceived,
 ];
 
-/// All malformed lines, their kinds, and the wrong lengths of the ledger's lines by themselves.
-const MALFORMED: [&str; 16] = [
+/// All malformed lines and their kinds; by themselves also the wrong lengths of the ledger's lines,
+/// and the wrong flag of an alternate.
+const MALFORMED: [&str; 17] = [
     "",
     "-empty",
     "-odd",
@@ -91,6 +92,7 @@ const MALFORMED: [&str; 16] = [
     "-length-0D-short",
     "-length-0D-long",
     "-flag",
+    "-flag-alternate",
     "-phase",
     "-n",
 ];
@@ -98,7 +100,7 @@ const MALFORMED: [&str; 16] = [
 const ARRIVAL: u8 = 0x09;
 
 /// The outcomes of a call that is not refused.
-fn outcomes_of(operation: u8) -> Vec<Outcome> {
+fn passed(operation: u8) -> Vec<Outcome> {
     if operation == ARRIVAL {
         let kisses = (0..=CODES.len()).map(|row| Outcome::Kiss(row as u8));
         kisses.chain([Outcome::Accepted]).collect()
@@ -107,11 +109,18 @@ fn outcomes_of(operation: u8) -> Vec<Outcome> {
     }
 }
 
+fn outcomes(operation: u8, refusals: &[Refusal]) -> impl Iterator<Item = Outcome> {
+    let refused = refusals.iter().map(|&refusal| Outcome::Refused(refusal));
+    refused.chain(passed(operation))
+}
+
+pub fn arrival_outcomes() -> impl Iterator<Item = Outcome> {
+    outcomes(ARRIVAL, &ARRIVAL_REFUSALS)
+}
+
 fn wanted() -> impl Iterator<Item = Row> {
     let calls = REFUSALS.into_iter().flat_map(|(operation, refusals)| {
-        let refused = refusals.iter().map(|&refusal| Outcome::Refused(refusal));
-        let outcomes = refused.chain(outcomes_of(operation));
-        outcomes.map(move |outcome| Row::Call { operation, outcome })
+        outcomes(operation, refusals).map(move |outcome| Row::Call { operation, outcome })
     });
     calls.chain(MALFORMED.map(|kind| Row::Malformed { kind }))
 }
@@ -171,6 +180,13 @@ fn ledger_length(line: &[u8]) -> Option<&'static str> {
     }
 }
 
+/// Whether the alternate's flag is wrong, and the record's flag is not.
+fn alternate_flag(line: &[u8]) -> Option<&'static str> {
+    let arrival = line.first() == Some(&ARRIVAL);
+    let wrong = *line.get(ASKED_AT)? < 2 && *line.get(ALTERNATE_AT)? > 1;
+    (arrival && wrong).then_some("-flag-alternate")
+}
+
 fn take_malformed(counter: &mut Counter, pair: &Pair) -> Option<()> {
     let mut add = |kind| counter.add(Row::Malformed { kind });
     add("");
@@ -179,8 +195,12 @@ fn take_malformed(counter: &mut Counter, pair: &Pair) -> Option<()> {
         Some(line) => {
             let malformed = Call::parse(line).err()?;
             add(kind_of(malformed));
-            let of_ledger = ledger_length(line).filter(|_| malformed == Malformed::Length);
-            of_ledger.into_iter().for_each(add);
+            let more = match malformed {
+                Malformed::Length => ledger_length(line),
+                Malformed::Flag => alternate_flag(line),
+                _ => None,
+            };
+            more.into_iter().for_each(add);
         }
     }
     Some(())

@@ -6,7 +6,8 @@ use crate::kiss::{self, CODES};
 use crate::refusal::Refusal::{self, *};
 use crate::replay::{ARRIVAL, ASK, GIVE_UP, KISS};
 
-const ASK_REFUSALS: [Refusal; 4] = [OwnClockZero, ClientStopped, AlreadyWaiting, AskedTooSoon];
+/// A replayed client is never stopped.
+const ASK_REFUSALS: [Refusal; 3] = [OwnClockZero, AlreadyWaiting, AskedTooSoon];
 
 const ARRIVAL_REFUSALS: [Refusal; 16] = [
     PacketLengthWrong,

@@ -87,7 +87,8 @@ pub fn arrival(r: &mut Random, line: &mut Vec<u8>) {
     if length_wrong {
         make_length_wrong(r, LONGEST.into(), &mut packet);
     }
-    Call::Arrival { client, t4: reply.t4, packet: &packet }.put(line);
+    let alternate = r.one_in(2);
+    Call::Arrival { client, t4: reply.t4, alternate, packet: &packet }.put(line);
 }
 
 pub fn give_up(r: &mut Random, line: &mut Vec<u8>) {

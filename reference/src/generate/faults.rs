@@ -174,7 +174,7 @@ mod tests {
             Client { phase: Phase::Waiting, transmit: t1, version: 4, asked: true, ..FRESH };
         let mut reply = good_reply(r, t1, 4);
         fault.into_iter().for_each(|fault| add_fault(r, fault, t1, &mut reply));
-        (reply.fields, arrival(&client, &octets_of(&reply.fields), reply.t4))
+        (reply.fields, arrival(&client, &octets_of(&reply.fields), reply.t4, r.one_in(2)))
     }
 
     const REFUSALS: [Refusal; 14] = [

@@ -59,6 +59,6 @@ mod tests {
     #[test]
     fn there_are_enough() {
         let count = super::lines().len();
-        assert!((1200..1500).contains(&count), "{count}");
+        assert!((1300..1600).contains(&count), "{count}");
     }
 }

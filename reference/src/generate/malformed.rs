@@ -5,7 +5,7 @@ use super::conformance::put_call;
 use super::packets::put_any;
 use super::plain_calls::write_fields;
 use super::server_calls::reply;
-use crate::conformance::call::{LONGEST, lengths};
+use crate::conformance::call::*;
 use crate::random::Random;
 
 /// An operation that is not listed.
@@ -79,18 +79,28 @@ fn set_from(r: &mut Random, at: usize, least: u8, line: &mut [u8]) {
 
 /// A flag or a phase that there is not.
 fn make_flag_wrong(r: &mut Random, line: &mut Vec<u8>) {
-    const PHASE: (usize, u8) = (1, 3);
-    const ASKED: (usize, u8) = (11, 2);
-    const SYNCHRONISED: (usize, u8) = (1, 2);
+    const PHASE: (usize, u8) = (PHASE_AT, 3);
+    const ASKED: (usize, u8) = (ASKED_AT, 2);
+    const ALTERNATE: (usize, u8) = (ALTERNATE_AT, 2);
     line.clear();
-    match r.below(4) {
-        0 => ask(r, line),
-        1 => arrival(r, line),
-        2 => give_up(r, line),
-        _ => reply(r, line),
-    }
-    let (at, least) =
-        if line.first() == Some(&0x0B) { SYNCHRONISED } else { r.pick([PHASE, ASKED]) };
+    let (at, least) = match r.below(4) {
+        0 => {
+            ask(r, line);
+            r.pick([PHASE, ASKED])
+        }
+        1 => {
+            arrival(r, line);
+            r.pick([PHASE, ASKED, ALTERNATE])
+        }
+        2 => {
+            give_up(r, line);
+            r.pick([PHASE, ASKED])
+        }
+        _ => {
+            reply(r, line);
+            (SYNCHRONISED_AT, 2)
+        }
+    };
     set_from(r, at, least, line);
 }
 
@@ -100,15 +110,15 @@ fn make_buffer_long(r: &mut Random, line: &mut Vec<u8>) {
     let at = match r.below(3) {
         0 => {
             write_fields(r, line);
-            1
+            N_OF_WRITE_AT
         }
         1 => {
             ask(r, line);
-            21
+            N_OF_ASK_AT
         }
         _ => {
             reply(r, line);
-            32
+            N_OF_REPLY_AT
         }
     };
     set_from(r, at, LONGEST + 1, line);

@@ -1,13 +1,12 @@
 //! A replay stream: one client with a long life.
 
 use super::faults::{Fault, add_fault};
-use super::packets::{kiss_code, make_length_wrong, octets_of, put_any, put_authenticator};
+use super::packets::{make_length_wrong, octets_of, put_any, put_authenticator};
 use super::replies::good_reply;
 use super::text::put_drawn;
 use super::timestamps::{nonzero_timestamp, today};
 use super::write_lines;
 use crate::client::{Client, FRESH, Phase};
-use crate::kiss;
 use crate::random::Random;
 use crate::refusal::Refusal::*;
 use crate::replay::{self, ARRIVAL, ASK, BEFORE_PACKET, GIVE_UP, LONGEST_PACKET, VERSION};
@@ -15,23 +14,15 @@ use std::io::{self, Write};
 
 /// Each kind of malformed line occurs once in so many.
 const RARE: u64 = 60;
+/// About what a frame adds to the uptime.
+const SECONDS_A_FRAME: u64 = 190;
 
-/// How the stream ends.
-#[derive(Clone, Copy, PartialEq)]
-enum End {
-    Plain,
-    /// With a kiss of this row.
-    Kiss(u8),
-    LateUptime,
-}
-
-/// Sixteen seeds in a row give each kiss row once, and one stream without.
-fn end_of(seed: u64) -> End {
-    match seed % 16 {
-        15 if (seed / 16).is_multiple_of(2) => End::LateUptime,
-        15 => End::Plain,
-        row => End::Kiss(row as u8),
-    }
+/// How a request is settled.
+#[derive(Clone, Copy)]
+enum Settlement {
+    Reply,
+    Kiss,
+    GiveUp,
 }
 
 struct Gateway {
@@ -44,8 +35,8 @@ struct Gateway {
     refused_frames: u64,
     /// Requests in a row that are still to get no reply.
     without_reply: u64,
-    /// Whether the request at hand is given up.
-    give_up: bool,
+    /// What ends the wait of the request at hand.
+    settlement: Settlement,
 }
 
 fn put_frame(operation: u8, uptime: u64, clock: u64, line: &mut Vec<u8>) {
@@ -113,24 +104,12 @@ impl Gateway {
         line.extend(packet);
     }
 
-    /// A kiss of a row; row 0 takes a code that is not listed.
-    fn kiss(&self, r: &mut Random, row: u8, line: &mut Vec<u8>) {
-        self.arrival(r, &[Fault::Kiss], line);
-        let mut code = kiss_code(r);
-        while kiss::row(code) != row {
-            code = kiss_code(r);
-        }
-        let identifier = line.get_mut(BEFORE_PACKET + 12..).and_then(<[u8]>::first_chunk_mut);
-        if let Some(octets) = identifier {
-            *octets = code;
-        }
-    }
-
-    /// An arrival that is refused, or a stranger's kiss.
+    /// An arrival that is refused, a kiss by one of the tests before it.
     fn refused_arrival(&self, r: &mut Random, line: &mut Vec<u8>) {
         let first = r.pick(FAULTS);
         if r.one_in(10) {
-            self.arrival(r, &[Fault::Kiss, Fault::By(OriginateMismatch)], line);
+            let refusal = r.pick([OriginateMismatch, ReplyModeWrong, VersionMismatch]);
+            self.arrival(r, &[Fault::Kiss, Fault::By(refusal)], line);
         } else if r.one_in(4) {
             let second = r.pick(FAULTS);
             self.arrival(r, &[first, second], line);
@@ -150,7 +129,12 @@ impl Gateway {
         if self.without_reply == 0 && r.one_in(40) {
             self.without_reply = 1 + r.below(14);
         }
-        self.give_up = self.without_reply > 0 || r.one_in(10);
+        self.settlement = match r.below(20) {
+            _ if self.without_reply > 0 => r.pick([Settlement::Kiss, Settlement::GiveUp]),
+            0 => Settlement::Kiss,
+            1 | 2 => Settlement::GiveUp,
+            _ => Settlement::Reply,
+        };
         self.without_reply = self.without_reply.saturating_sub(1);
     }
 
@@ -189,17 +173,20 @@ impl Gateway {
     }
 
     fn waiting(&mut self, r: &mut Random, line: &mut Vec<u8>) {
-        let sent = self.client.uptime;
         if self.refused_frames > 0 {
             self.refused_frames -= 1;
             self.refused_while_waiting(r, line);
-        } else if self.give_up {
-            let more = if r.one_in(2) { 16 } else { 16 + r.below(40) };
-            let uptime = sent.saturating_add(more);
-            self.uptime = self.uptime.max(uptime);
-            put_give_up(r, uptime, line);
-        } else {
-            self.arrival(r, &[], line);
+            return;
+        }
+        match self.settlement {
+            Settlement::Reply => self.arrival(r, &[], line),
+            Settlement::Kiss => self.arrival(r, &[Fault::Kiss], line),
+            Settlement::GiveUp => {
+                let more = if r.one_in(2) { 16 } else { 16 + r.below(40) };
+                let uptime = self.client.uptime.saturating_add(more);
+                self.uptime = self.uptime.max(uptime);
+                put_give_up(r, uptime, line);
+            }
         }
     }
 
@@ -219,17 +206,6 @@ impl Gateway {
                 put_give_up(r, uptime, line);
             }
             _ => self.refused_arrival(r, line),
-        }
-    }
-
-    fn stopped(&mut self, r: &mut Random, line: &mut Vec<u8>) {
-        match r.below(4) {
-            0 => self.refused_arrival(r, line),
-            1 => put_give_up(r, self.uptime, line),
-            _ => {
-                self.uptime = self.uptime.saturating_add(r.below(100));
-                self.ask(r, self.uptime, line);
-            }
         }
     }
 
@@ -267,14 +243,12 @@ impl Gateway {
         put_frame(operation, self.uptime, self.clock(r), line);
     }
 
-    /// The frame that suits the client; `late` where the stream's end is near.
-    fn next_frame(&mut self, r: &mut Random, end: End, late: bool, line: &mut Vec<u8>) {
+    /// The frame that suits the client, which a replay never stops.
+    fn next_frame(&mut self, r: &mut Random, line: &mut Vec<u8>) {
         line.clear();
-        match (self.client.phase, end) {
-            (Phase::Waiting, End::Kiss(row)) if late => self.kiss(r, row, line),
-            (Phase::Waiting, _) => self.waiting(r, line),
-            (Phase::Idle, _) => self.idle(r, line),
-            (Phase::Stopped, _) => self.stopped(r, line),
+        match self.client.phase {
+            Phase::Waiting => self.waiting(r, line),
+            Phase::Idle | Phase::Stopped => self.idle(r, line),
         }
     }
 
@@ -288,36 +262,31 @@ impl Gateway {
     }
 }
 
-/// What the clock shows at uptime zero: half of the streams pass the wrap of 2036 in their middle.
-fn base(r: &mut Random, count: u64) -> u64 {
-    match r.below(4) {
-        0 | 1 => 0u64.wrapping_sub((count * 8) << 32),
-        2 => today(r),
-        _ => r.number(),
+/// What the clock shows at uptime zero: with an even seed, so that the wrap of 2036 comes in the
+/// middle of the stream.
+fn base(r: &mut Random, seed: u64, count: u64) -> u64 {
+    if seed.is_multiple_of(2) {
+        0u64.wrapping_sub((count * SECONDS_A_FRAME / 2) << 32)
+    } else {
+        today(r)
     }
 }
 
 /// Writes so many frames; `open` leaves the last line feed off.
 pub fn run(count: u64, seed: u64, open: bool, output: impl Write) -> io::Result<()> {
     let mut r = Random::new(seed ^ 0x5EED_0F4E_B1A7);
-    let end = end_of(seed);
-    let tail = (count / 50).clamp(1, 400);
-    let base = base(&mut r, count);
-    let mut gateway = Gateway {
-        client: FRESH,
-        uptime: 0,
-        base,
-        refused_frames: 0,
-        without_reply: 0,
-        give_up: false,
-    };
+    let base = base(&mut r, seed, count);
+    let settlement = Settlement::Reply;
+    let (client, uptime, refused_frames, without_reply) = (FRESH, 0, 0, 0);
+    let mut gateway = Gateway { client, uptime, base, refused_frames, without_reply, settlement };
+    // With an odd seed the last frames have the latest uptimes there are.
+    let late = (count / 50).clamp(1, 400);
     let mut line = Vec::new();
     write_lines(count, open, output, |place, text| {
-        let left = count - place;
-        if left == tail && end == End::LateUptime {
+        if count - place == late && !seed.is_multiple_of(2) {
             gateway.uptime = u64::MAX - r.below(200);
         }
-        gateway.next_frame(&mut r, end, left <= tail, &mut line);
+        gateway.next_frame(&mut r, &mut line);
         let no_frame = |r: &mut Random, line: &mut Vec<u8>| gateway.no_frame(r, line);
         put_drawn(&mut r, RARE, &mut line, no_frame, text);
         gateway.follow(&mut r, &line);

@@ -4,7 +4,10 @@ use super::Marks;
 use super::client::records;
 use super::plain::exchange;
 use crate::client::{Client, Phase};
+use crate::conformance::records::read_client;
+use crate::count::conformance::arrival_outcomes;
 use crate::count::outcome::Outcome;
+use crate::octets::Reader;
 use crate::packet::{self, Fields, LENGTH};
 use crate::refusal::Refusal::*;
 use crate::timestamp::{difference, measure};
@@ -37,9 +40,33 @@ pub fn arrival(
     order_about_kiss(m, &fields, t4, outcome);
     order_about_roots(m, &fields, client.transmit, t4, outcome);
     m.see_each("accepted-exponent-", 6..=14, |x| accepted && client.exponent == x);
-    m.see_each("kiss-exponent-", 6..=14, |x| outcome.is_kiss() && client.exponent == x);
     m.see("half-1-given", accepted && answer.get(10) == Some(&1));
     exchange(m, [client.transmit, fields.receive, fields.transmit, t4], outcome);
+}
+
+/// Every outcome, with an alternate and without one.
+pub fn alternates(m: &mut Marks, alternate: bool, outcome: Outcome) {
+    m.see_each("with-alternate-", arrival_outcomes(), |o| alternate && outcome == o);
+    m.see_each("without-alternate-", arrival_outcomes(), |o| !alternate && outcome == o);
+}
+
+/// What a kiss does to the record, with each exponent.
+pub fn kisses(m: &mut Marks, client: &Client, alternate: bool, answer: &[u8], outcome: Outcome) {
+    let stops = outcome.is_kiss() && alternate;
+    let backs_off = outcome.is_kiss() && !alternate;
+    let next = next_client(answer).map(|next| (next.phase, next.exponent));
+    m.see_each("kiss-stops-exponent-", 6..=14, |x| {
+        stops && client.exponent == x && next == Some((Phase::Stopped, x))
+    });
+    m.see_each("kiss-backs-off-exponent-", 6..=14, |x: u8| {
+        backs_off && client.exponent == x && next == Some((Phase::Idle, 14.min(x + 1)))
+    });
+}
+
+/// The record at the end of an answer.
+fn next_client(answer: &[u8]) -> Option<Client> {
+    let octets = answer.last_chunk::<20>()?;
+    read_client(&mut Reader::new(octets)).ok()
 }
 
 /// Each length a packet can have, and what came of it.

@@ -35,8 +35,11 @@ fn packet(fields: &Fields, length: u8, fill: u8) -> Vec<u8> {
     octets
 }
 
+/// The arrival of a packet, without an alternate and with one.
 pub fn arrival(lines: &mut Lines, client: &Client, t4: u64, fields: &Fields, length: u8) {
-    lines.call(Call::Arrival { client: *client, t4, packet: &packet(fields, length, 0xAB) });
+    let (client, packet) = (*client, packet(fields, length, 0xAB));
+    let call = |alternate| Call::Arrival { client, t4, alternate, packet: &packet };
+    lines.calls([false, true].map(call));
 }
 
 fn server_reply(lines: &mut Lines, n: u8, length: u8) {
@@ -69,6 +72,14 @@ fn put_kisses(lines: &mut Lines) {
     for identifier in [*b"XXXX", *b"deny"].into_iter().chain(CODES) {
         let kiss = Fields { stratum: 0, leap: 3, identifier, ..reply(T, 0, 0) };
         arrival(lines, &waiting(T), T, &kiss, 48);
+    }
+}
+
+/// A kiss at each exponent.
+fn put_exponents(lines: &mut Lines) {
+    let kiss = Fields { stratum: 0, identifier: *b"RATE", ..reply(T, T, T) };
+    for exponent in 6..=14 {
+        arrival(lines, &Client { uptime: 1000, exponent, ..waiting(T) }, T, &kiss, 48);
     }
 }
 
@@ -116,6 +127,7 @@ fn put_roots_with_other_faults(lines: &mut Lines) {
 pub fn put_lines(lines: &mut Lines) {
     put_lengths(lines);
     put_kisses(lines);
+    put_exponents(lines);
     put_uptimes(lines);
     lines.calls([Call::Fresh, Call::Constants]);
     put_roots(lines);

@@ -2,7 +2,7 @@
 
 use super::Lines;
 use crate::client::FRESH;
-use crate::conformance::call::{Call, LONGEST};
+use crate::conformance::call::*;
 
 /// Texts that are no line of digits, or no operation.
 const TEXTS: [&str; 13] =
@@ -17,32 +17,28 @@ fn put_lengths(lines: &mut Lines, operation: u8, right: usize) {
     }
 }
 
-/// An ask with some octets set.
-fn ask_with(octets: &[(usize, u8)]) -> Vec<u8> {
-    let clock = u64::from_be_bytes([1; 8]);
+/// A call's line with one octet set.
+fn with_octet(call: Call, at: usize, value: u8) -> Vec<u8> {
     let mut line = Vec::new();
-    Call::Ask { client: FRESH, n: 48, version: 4, clock, uptime: clock }.put(&mut line);
-    for &(at, value) in octets {
-        if let Some(octet) = line.get_mut(at) {
-            *octet = value;
-        }
+    call.put(&mut line);
+    if let Some(octet) = line.get_mut(at) {
+        *octet = value;
     }
     line
 }
 
 pub fn put_lines(lines: &mut Lines) {
-    const PHASE: usize = 1;
-    const ASKED: usize = 11;
-    const N: usize = 21;
     put_lengths(lines, 0x0C, 17);
     put_lengths(lines, 0x0D, 16);
-    lines.octets(&ask_with(&[(N, LONGEST + 1)]));
-    lines.octets(&ask_with(&[(PHASE, 3)]));
-    lines.octets(&ask_with(&[(ASKED, 2)]));
-    let mut unsynchronised = vec![0x0B, 2];
-    unsynchronised.resize(33, 0);
-    lines.octets(&unsynchronised);
-    let mut long = ask_with(&[(N, LONGEST + 1)]);
+    let clock = u64::from_be_bytes([1; 8]);
+    let ask = Call::Ask { client: FRESH, n: 48, version: 4, clock, uptime: clock };
+    let arrival = Call::Arrival { client: FRESH, t4: clock, alternate: false, packet: &[0; 48] };
+    lines.octets(&with_octet(ask, N_OF_ASK_AT, LONGEST + 1));
+    lines.octets(&with_octet(ask, PHASE_AT, 3));
+    lines.octets(&with_octet(ask, ASKED_AT, 2));
+    lines.octets(&with_octet(arrival, ALTERNATE_AT, 2));
+    lines.octets(&[&[0x0B, 2], &[0; 31][..]].concat());
+    let mut long = with_octet(ask, N_OF_ASK_AT, LONGEST + 1);
     long.push(0);
     lines.octets(&long);
     for (character, length) in [(b'0', 5000), (b'0', 5001), (b'f', 70_000), (b'0', 140_001)] {
