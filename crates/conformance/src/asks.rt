@@ -74,10 +74,11 @@ fn arrived(answer: ArrivalAnswer, end: usize) -> Answer {
 pub(crate) fn arrival(line: &[u8], at: usize) -> Answer {
     let record = take_record(line, at);
     let t4 = take_timestamp(line, record.end);
-    let packet = packet(line, t4.end);
-    let end = packet_end(line, t4.end);
+    let alternate = take_limited(line, t4.end, 1);
+    let packet = packet(line, alternate.end);
+    let end = packet_end(line, alternate.end);
     let client = record.value;
-    let next = client.arrival(packet, t4.value);
+    let next = client.arrival(packet, t4.value, alternate.value == 1);
     let answer = next.answer;
     arrived(answer, end).with_record(next.client)
 }

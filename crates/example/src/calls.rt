@@ -54,9 +54,9 @@ fn show_arrived(answer: ArrivalAnswer) {
     }
 }
 
-pub(crate) fn arrival(client: Client, packet: &[u8], t4: u64) -> Client {
+pub(crate) fn arrival(client: Client, packet: &[u8], t4: u64, alternate: bool) -> Client {
     text(b"arrival: ");
-    let arrived = client.arrival(packet, Timestamp::from_units(t4));
+    let arrived = client.arrival(packet, Timestamp::from_units(t4), alternate);
     let answer = arrived.answer;
     show_arrived(answer);
     arrived.client

@@ -12,28 +12,41 @@ const T4: u64 = 0xFFFF_FFFB_C000_0000;
 fn accepted(request: &mut [u8], reply: &mut [u8]) -> Client {
     let client = calls::ask(Client::fresh(), request, T1, 0);
     calls::reply(request, true, reply);
-    let client = calls::arrival(client, reply, T4);
-    calls::arrival(client, reply, T4)
+    let client = calls::arrival(client, reply, T4, false);
+    calls::arrival(client, reply, T4, false)
 }
 
 // Asks again, gets the old reply, and gives up: each too soon at first.
 fn no_reply(client: Client, request: &mut [u8], old: &[u8]) -> Client {
     let client = calls::ask(client, request, T4, 63);
     let client = calls::ask(client, request, T4, 64);
-    let client = calls::arrival(client, old, T4);
+    let client = calls::arrival(client, old, T4, false);
     let client = calls::give_up(client, 79);
     calls::give_up(client, 80)
 }
 
 // The server is not synchronised: a kiss.
-fn kiss(client: Client, request: &mut [u8], reply: &mut [u8]) -> Client {
-    let client = calls::ask(client, request, T1, 192);
+fn kiss(
+    client: Client,
+    uptime: u64,
+    request: &mut [u8],
+    reply: &mut [u8],
+    alternate: bool,
+) -> Client {
+    let client = calls::ask(client, request, T1, uptime);
     calls::reply(request, false, reply);
-    calls::arrival(client, reply, T4)
+    calls::arrival(client, reply, T4, alternate)
 }
 
-// It stops the client for good.
-fn stopped(client: Client, request: &mut [u8]) {
+// Without an alternate it has the client back off, from 2^7 s to 2^8 s.
+fn backed_off(client: Client, request: &mut [u8], reply: &mut [u8]) -> Client {
+    let client = kiss(client, 192, request, reply, false);
+    calls::ask(client, request, T1, 447)
+}
+
+// With one it stops the client for good.
+fn stopped(client: Client, request: &mut [u8], reply: &mut [u8]) {
+    let client = kiss(client, 448, request, reply, true);
     let client = calls::ask(client, request, T1, 100000);
     calls::give_up(client, 100000);
 }
@@ -53,7 +66,7 @@ fn main() {
     let mut reply = [0u8; 48];
     let client = accepted(&mut request, &mut reply);
     let client = no_reply(client, &mut request, &reply);
-    let client = kiss(client, &mut request, &mut reply);
-    stopped(client, &mut request);
+    let client = backed_off(client, &mut request, &mut reply);
+    stopped(client, &mut request, &mut reply);
     server_refusals();
 }
