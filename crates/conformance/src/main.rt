@@ -81,18 +81,20 @@ fn take_all(start: State, characters: &[u8], octets: &mut [u8], out: &mut [u8]) 
 }
 
 // Takes the input to its end; a read error counts as its end. A proved loop has to end, and nothing says that the input does: the loop counts its
-// turns, up to a number that no run reaches.
+// turns down, from a number that no run uses up.
 fn read_all(block: &mut [u8], octets: &mut [u8], out: &mut [u8]) -> State {
     let mut state = State {
         line: Line::start(),
         at: 0,
     };
-    for _ in 0..u64::MAX {
+    let mut turns = u64::MAX;
+    while turns > 0 {
         let n = io::read_full(STDIN_FILENO, block);
         if n == 0 {
             return state;
         }
         state = take_all(state, &block[..n], octets, out);
+        turns -= 1;
     }
     state
 }
