@@ -140,6 +140,10 @@ root-delay-out-of-range = 33
 abbrev pub root-dispersion-too-large : ℕ
 root-dispersion-too-large = 34
 
+-- list of records empty or of more than eight, or a record number, the one in use included, not in it
+abbrev pub not-in-list : ℕ
+not-in-list = 35
+
 -- replay line malformed
 abbrev pub line-malformed : ℕ
 line-malformed = 64
@@ -181,6 +185,7 @@ numbers =
     ∷ limit-out-of-range
     ∷ root-delay-out-of-range
     ∷ root-dispersion-too-large
+    ∷ not-in-list
     ∷ line-malformed
     ∷ []
 

@@ -104,11 +104,14 @@ pub const ROOT_DELAY_OUT_OF_RANGE: u8 = 33;
 // Root dispersion, unsigned, 65536 or more.
 pub const ROOT_DISPERSION_TOO_LARGE: u8 = 34;
 
+// List of records empty or of more than eight, or a record number, the one in use included, not in it.
+pub const NOT_IN_LIST: u8 = 35;
+
 // Replay line malformed.
 pub const LINE_MALFORMED: u8 = 64;
 
 // All of them, in the order of the rules' table.
-pub fn numbers() -> [u8; 35]
+pub fn numbers() -> [u8; 36]
     ensures { λ r. ⌜ r ≡ numbers ⌝ }
 {
     [
@@ -146,6 +149,7 @@ pub fn numbers() -> [u8; 35]
         LIMIT_OUT_OF_RANGE,
         ROOT_DELAY_OUT_OF_RANGE,
         ROOT_DISPERSION_TOO_LARGE,
+        NOT_IN_LIST,
         LINE_MALFORMED,
     ]
 }
