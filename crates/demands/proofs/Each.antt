@@ -1,5 +1,5 @@
 -- Every call meets its form.
-use Rattle.demands.specs.Behaviour.{Operation, client, reply, measure, read, write, date, timestamp, precision, entry, tick, line, form, ours}
+use Rattle.demands.specs.Behaviour.{Operation, client, association, reply, measure, read, write, date, timestamp, precision, entry, tick, line, form, ours}
 use Rattle.demands.proofs.Form.{Meets}
 use Rattle.demands.proofs.Client.{client-meets}
 use Rattle.demands.proofs.Reply.{reply-meets}
@@ -9,9 +9,11 @@ use Rattle.demands.proofs.Calendar.{date-meets, timestamp-meets}
 use Rattle.demands.proofs.Precision.{precision-meets}
 use Rattle.demands.proofs.Ledger.{entry-meets, tick-meets}
 use Rattle.demands.proofs.Line.{line-meets}
+use Rattle.demands.proofs.Associations.{associations-meets}
 
 pub each : (x : Operation) → Meets (form x) (ours .does x)
 each client = client-meets
+each association = associations-meets
 each reply = reply-meets
 each measure = measure-meets
 each read = read-meets

@@ -288,6 +288,21 @@ module _ {F : Form} {f : Implementation F} (m : Meets F f) (W : Wrapper F) where
       };
     }
 
+-- ---- a call around a call, with tests before it that the rules give in facts
+
+-- the table says row by row what the rules say, and ends at what the inner call is given
+infixr 3 _before_
+pub data Leads (F : Form) {O : Type 0} (show : F .Outcome → O) : Tests (F .Input) → Rules O → Type 1 where
+  _before_ : {n : ℕ} {b : Bool} {P : Type 0} {t : Tests (F .Input)} {r : Rules O} → WhereFalse P b → Leads F show t r → Leads F show (n if b else t) (n unless P then r)
+  inner : {x : F .Input} → Leads F show (otherwise x) (mapRules show (F .rules x))
+
+module _ (F : Form) (W : Wrapper F) where
+  -- so the rules give what the inner call's rules give, and before them the numbers of the table
+  pub led : (i : W .Input) {t : Tests (F .Input)} {r : Rules (W .Outcome)} → Leads F (W .show i) t r → (g : Given (W .Outcome)) → Gives (rulesOf F W i (tests.given t)) g → Gives r g
+  led i (_before_ {b = true} p rest) g e = inl (p .to, e)
+  led i (_before_ {b = false} p rest) g e = inr (p .from tt, led i rest g e)
+  led i inner g e = e
+
 -- ---- what does the same meets the same
 
 pub same-program : {F : Form} {f g : Implementation F} → ((i : F .Input) → f i ≡ g i) → Meets F g → Meets F f

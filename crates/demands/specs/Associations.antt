@@ -1,0 +1,111 @@
+-- A call for one of a gateway's associations: the client's call at that record, with 35 and 29 before it.
+use Prim.Native.Nat.{ℕ, _≤_, _<_}
+use mathlib.Core.Bool.{cond}
+use mathlib.Core.List.{List, [], _∷_}
+use lib.Dec.{eqb}
+use lib.ListN.{length, set}
+use Rattle.refusals.specs.Numbers.{not-in-list, record-not-legal}
+use Rattle.ordered_tests.specs.Tests.{Tests, otherwise, pass, answer, kept}
+use Rattle.timestamp.specs.declared.Timestamp.{Timestamp}
+use Rattle.client.specs.declared.Client.{Client}
+use Rattle.client.specs.Calls as calls
+use Rattle.association_rules.specs.declared.Alternate.{Alternate}
+use Rattle.association_rules.specs.Associations.{listTests, association, alternate, exists, listAfter}
+use Rattle.demands.specs.Form.{_unless_then_, Form, Implementation}
+use Rattle.demands.specs.Wrapper.{mapRules}
+use Rattle.demands.specs.Legal.{Legal}
+use Rattle.demands.specs.Client.{shown, callRules}
+
+-- ---- what a call is given
+
+-- whether an alternate exists is read off the list
+pub record Arrival : Type 0 where
+  pub packet : List ℕ
+  pub t4 : Timestamp
+
+pub data Call : Type 0 where
+  ask : calls.Ask → Call
+  arrival : Arrival → Call
+  giveUp : calls.GiveUp → Call
+
+-- the records, the number of the one that the call is for, and the number in use
+pub record Input : Type 0 where
+  pub list : List Client
+  pub at : ℕ
+  pub inUse : ℕ
+  pub call : Call
+
+pub record Outcome : Type 0 where
+  pub result : calls.Result
+  pub list : List Client
+  pub inUse : ℕ
+  pub octets : List ℕ
+
+-- ---- its rules
+
+abbrev pub InList : List Client → ℕ → ℕ → Type 0
+InList list at inUse = (1 ≤ length list) × (length list ≤ 8) × (at < length list) × (inUse < length list)
+
+abbrev pub AllLegal : List Client → Type 0
+AllLegal [] = Unit {0}
+AllLegal (c ∷ rest) = Legal c × AllLegal rest
+
+-- after a kiss of the record in use the alternate is in use, where there is one
+abbrev pub useAfter : calls.Result → Alternate → (at inUse : ℕ) → ℕ
+useAfter (calls.kiss code row) (Alternate.Record i) at inUse = cond (eqb at inUse) i inUse
+useAfter (calls.kiss code row) Alternate.None at inUse = inUse
+useAfter (calls.refused n) a at inUse = inUse
+useAfter calls.done a at inUse = inUse
+useAfter (calls.accepted offset half delay) a at inUse = inUse
+
+module _ (i : Input) where
+  -- the client's call, which is told whether the record has an alternate
+  abbrev clientCall : Call → calls.Call
+  clientCall (ask x) = calls.ask x
+  clientCall (arrival x) = calls.arrival (record { packet = x .packet; t4 = x .t4; alternate = exists (alternate (i .list) (i .at)) })
+  clientCall (giveUp x) = calls.giveUp x
+
+  abbrev pub at-record : Client × calls.Call
+  at-record = (association (i .list) (i .at), clientCall (i .call))
+
+  -- the record that it hands back stands in its place, and all others are as they stood
+  abbrev pub placed : calls.Outcome → Outcome
+  placed o = record {
+    result = o .result;
+    list = set (i .list) (i .at) (o .next);
+    inUse = useAfter (o .result) (alternate (i .list) (i .at)) (i .at) (i .inUse);
+    octets = o .octets;
+  }
+
+abbrev pub lent : Call → List ℕ
+lent (ask x) = x .buffer
+lent (arrival x) = x .packet
+lent (giveUp x) = []
+
+abbrev pub associations : Form
+associations = record {
+  Input = Input;
+  Outcome = Outcome;
+  shown = λ o. shown (o .result);
+  refusing = λ i n. record { result = calls.refused n; list = i .list; inUse = i .inUse; octets = lent (i .call) };
+  rules = λ i.
+      not-in-list unless InList (i .list) (i .at) (i .inUse) then
+      record-not-legal unless AllLegal (i .list) then
+      mapRules (placed i) (callRules (at-record i .0) (at-record i .1));
+}
+
+-- ---- ours: the definitions that the contracts of the code cite
+
+-- what the tests before the client's own give, and then the client's call at its record
+abbrev pub table : Input → Tests (Client × calls.Call)
+table i = listTests (i .list) (i .at) (i .inUse) (otherwise (at-record i))
+
+abbrev pub ours : Implementation associations
+ours i =
+    let o = calls.step (at-record i .0) (at-record i .1) in
+    record {
+      result = answer calls.refused (listTests (i .list) (i .at) (i .inUse) (otherwise (o .result)));
+      list = listAfter (i .list) (i .at) (i .inUse) (o .next);
+      inUse = kept (listTests (i .list) (i .at) (i .inUse) pass) (i .inUse) (placed i o .inUse);
+      octets = kept (listTests (i .list) (i .at) (i .inUse) pass) (lent (i .call)) (o .octets);
+    }
