@@ -19,7 +19,7 @@ use Rattle.demands.specs.Wrapper.{Wrapper, wrapped, through}
 use Rattle.demands.specs.Client as clients
 use Rattle.demands.specs.Client.{callRules, client}
 use Rattle.demands.specs.Associations.{Call, ask, arrival, giveUp, Input, Outcome, InList, AllLegal, at-record, placed, lent, associations, table, ours}
-use Rattle.ordered_tests.proofs.Reflection.{WhereFalse, negated, both, is-below, within}
+use Rattle.ordered_tests.proofs.Reflection.{WhereFalse, negated, both, is-false, is-below, within}
 use Rattle.demands.proofs.Form.{Meets, Each, Accepted, numbered, by, acceptance-shown, kiss-shown, Wraps, wrapped-meets, Leads, _before_, inner, led}
 use Rattle.demands.proofs.Legal.{legal}
 use Rattle.demands.proofs.Client.{client-meets}
@@ -81,6 +81,13 @@ module _ (i : Input) where
       same (ask x) e = rw e (λ j. record { result = calls.refused n; list = set-getD (i .list) (i .at) fresh j; inUse = i .inUse; octets = x .buffer })
       same (arrival x) e = rw e (λ j. record { result = calls.refused n; list = set-getD (i .list) (i .at) fresh j; inUse = i .inUse; octets = x .packet })
       same (giveUp x) e = rw e (λ j. record { result = calls.refused n; list = set-getD (i .list) (i .at) fresh j; inUse = i .inUse; octets = [] })
+
+  -- in the list and with all records legal, the client's call is made at the record
+  pub in-place : InList (i .list) (i .at) (i .inUse) → AllLegal (i .list) → ours i ≡ placed i (calls.step (at-record i .0) (at-record i .1))
+  in-place inside legal =
+      let e = is-false (outside (i .list) (i .at) (i .inUse)) .from (in-list (i .list) (i .at) (i .inUse) .to inside) in
+      let f = is-false (anyIllegal (i .list)) .from (all-legal (i .list) .to legal) in
+      rw (e, f) refl
 
   is-ours : ours i ≡ through client listing clients.ours i
   is-ours = go (outside (i .list) (i .at) (i .inUse)) (anyIllegal (i .list)) refl refl

@@ -296,6 +296,14 @@ pub data Leads (F : Form) {O : Type 0} (show : F .Outcome → O) : Tests (F .Inp
   _before_ : {n : ℕ} {b : Bool} {P : Type 0} {t : Tests (F .Input)} {r : Rules O} → WhereFalse P b → Leads F show t r → Leads F show (n if b else t) (n unless P then r)
   inner : {x : F .Input} → Leads F show (otherwise x) (mapRules show (F .rules x))
 
+-- an outcome of rules with something made of each is made of an outcome of the rules
+pub unmapped : {A B : Type 0} (h : A → B) (r : Rules A) (o : B) → Passes (mapRules h r) o → (a : A) × Passes r a × (h a ≡ o)
+unmapped h (n unless P then rest) o (p, q) = let (a, x, e) = unmapped h rest o q in (a, (p, x), e)
+unmapped h (a provided P else rest) o (inl (p, e)) = (a, inl (p, refl), e)
+unmapped h (x provided P else rest) o (inr (no-kiss, q)) = let (a, y, e) = unmapped h rest o q in (a, inr (no-kiss, y), e)
+unmapped h (does a) o e = (a, refl, e)
+unmapped h (refuses n) o p = absurd p
+
 module _ (F : Form) (W : Wrapper F) where
   -- so the rules give what the inner call's rules give, and before them the numbers of the table
   pub led : (i : W .Input) {t : Tests (F .Input)} {r : Rules (W .Outcome)} → Leads F (W .show i) t r → (g : Given (W .Outcome)) → Gives (rulesOf F W i (tests.given t)) g → Gives r g

@@ -15,16 +15,16 @@ use Rattle.demands.specs.SingleServer.{NoAlternate, NoAlternates, NeverS
 use Rattle.demands.proofs.Form.{Passes, either}
 use Rattle.demands.proofs.Client.{client-meets}
 
-abbrev Runs : Outcome → Type 0
+abbrev pub Runs : Outcome → Type 0
 Runs o = o .next .phase ≢ Stopped
 
-idle-runs : Idle ≢ Stopped
+pub idle-runs : Idle ≢ Stopped
 idle-runs e = subst (λ p. T (not (isStopped p))) e tt
 
-waiting-runs : Waiting ≢ Stopped
+pub waiting-runs : Waiting ≢ Stopped
 waiting-runs e = subst (λ p. T (not (isStopped p))) e tt
 
-passing-runs : (c : Client) (x : Call) (o : Outcome) → NoAlternate x → Passes (callRules c x) o → Runs o
+pub passing-runs : (c : Client) (x : Call) (o : Outcome) → NoAlternate x → Passes (callRules c x) o → Runs o
 passing-runs c (ask x) o alone (_, (_, (_, (_, (_, (_, (_, e))))))) = subst Runs e waiting-runs
 passing-runs c (arrival x) o alone (_, (_, (_, (_, (_, (_, inl (_, e))))))) =
     subst Runs e (subst (λ alternate. cond alternate (withoutRequest c Stopped (c .exponent)) (withoutRequest c Idle (min (suc (c .exponent)) 14)) .phase ≢ Stopped) (sym alone) idle-runs)

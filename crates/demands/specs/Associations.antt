@@ -1,6 +1,6 @@
 -- A call for one of a gateway's associations: the client's call at that record, with 35 and 29 before it.
 use Prim.Native.Nat.{ℕ, _≤_, _<_}
-use mathlib.Core.Bool.{cond}
+use mathlib.Core.Bool.{Bool, cond}
 use mathlib.Core.List.{List, [], _∷_}
 use lib.Dec.{eqb}
 use lib.ListN.{length, set}
@@ -58,15 +58,15 @@ useAfter (calls.refused n) a at inUse = inUse
 useAfter calls.done a at inUse = inUse
 useAfter (calls.accepted offset half delay) a at inUse = inUse
 
-module _ (i : Input) where
-  -- the client's call, which is told whether the record has an alternate
-  abbrev clientCall : Call → calls.Call
-  clientCall (ask x) = calls.ask x
-  clientCall (arrival x) = calls.arrival (record { packet = x .packet; t4 = x .t4; alternate = exists (alternate (i .list) (i .at)) })
-  clientCall (giveUp x) = calls.giveUp x
+-- the client's call, told whether an alternate exists
+abbrev pub clientCall : Bool → Call → calls.Call
+clientCall told (ask x) = calls.ask x
+clientCall told (arrival x) = calls.arrival (record { packet = x .packet; t4 = x .t4; alternate = told })
+clientCall told (giveUp x) = calls.giveUp x
 
+module _ (i : Input) where
   abbrev pub at-record : Client × calls.Call
-  at-record = (association (i .list) (i .at), clientCall (i .call))
+  at-record = (association (i .list) (i .at), clientCall (exists (alternate (i .list) (i .at))) (i .call))
 
   -- the record that it hands back stands in its place, and all others are as they stood
   abbrev pub placed : calls.Outcome → Outcome
