@@ -14,6 +14,9 @@ orders = record {
   ask = λ c x. record { in-table = refl; in-rules = refl };
   arrival = λ c x. record { in-table = refl; in-rules = refl };
   give-up = λ c x. record { in-table = refl; in-rules = refl };
+  list-ask = λ list at inUse x. record { in-table = refl; in-rules = refl };
+  list-arrival = λ list at inUse x. record { in-table = refl; in-rules = refl };
+  list-give-up = λ list at inUse x. record { in-table = refl; in-rules = refl };
   server = λ x. record { in-table = refl; in-rules = refl };
   four = λ x. record { in-table = refl; in-rules = refl };
   reading = λ p. record { in-table = refl; in-rules = refl };

@@ -11,16 +11,23 @@ use lib.ListN.{length, set, length-set}
 use lib.Seq.{getD-set-same, getD-set-other}
 use Rattle.client.specs.declared.Client.{Client}
 use Rattle.client.specs.declared.Phase.the-variants.{Stopped}
-use Rattle.client.specs.Record.{fresh}
+use Rattle.arithmetic.specs.Octets.{octets}
+use Rattle.packet.specs.Packet.{fieldsOf}
+use Rattle.kiss.specs.Kiss.{rowOf}
+use Rattle.poll.specs.Poll.{tooSoon}
+use Rattle.reply_checks.specs.Checks.{waitingTests, checkTests}
+use Rattle.client.specs.Record.{fresh, illegal}
+use Rattle.client.specs.Ask.{askTests, afterAsk}
+use Rattle.client.specs.Arrival.{arrivalAnswer, arrived}
 use Rattle.client.specs.Calls as calls
 use Rattle.association_rules.specs.declared.Alternate.{Alternate}
-use Rattle.association_rules.specs.Associations.{association, alternate, exists}
+use Rattle.association_rules.specs.Associations.{outside, anyIllegal, association, firstRunning, alternate, exists}
 use Rattle.association_rules.proofs.Alternates.{alternates}
 use Rattle.demands.specs.Client.{callRules}
 use Rattle.demands.specs.Behaviour.{ours}
 use Rattle.demands.specs.Associations.{Call, ask, arrival, giveUp, InList, AllLegal, useAfter, clientCall, placed, at-record}
 use Rattle.demands.specs.Demand3List.{Associations, Numbered, given, does, left, after}
-use Rattle.demands.specs.SeveralServers.{Runs, OneRuns, UseRuns}
+use Rattle.demands.specs.SeveralServers.{Runs, OneRuns, UseRuns, Worked}
 use Rattle.demands.specs.SingleServer.{NoAlternate}
 use Rattle.demands.proofs.Form.{Passes, either, unmapped}
 use Rattle.demands.proofs.Associations.{associations-meets}
@@ -149,3 +156,9 @@ use-kept s x runs = stepped s x (λ t. Runs (t .list) (t .inUse)) runs (λ o in-
 pub use-runs : UseRuns ours
 use-runs s [] runs = runs
 use-runs s (x ∷ xs) runs = use-runs (left ours (does ours s x)) xs (use-kept s x runs)
+
+-- ---- the worked case
+
+pub worked : Worked
+unfolding outside anyIllegal alternate firstRunning arrived arrivalAnswer waitingTests checkTests fieldsOf octets rowOf illegal askTests afterAsk tooSoon
+worked = record { moved = refl; backed-off = refl }

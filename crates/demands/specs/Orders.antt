@@ -17,12 +17,14 @@ use Rattle.client.specs.Ask.{askTests}
 use Rattle.client.specs.Arrival.{arrivalTests}
 use Rattle.client.specs.GiveUp.{giveUpTests}
 use Rattle.client.specs.Calls.{Ask, Arrival, GiveUp}
+use Rattle.association_rules.specs.Associations.{listTests, association}
 use Rattle.server.specs.Server.{replyTests}
 use Rattle.ledger.specs.Ledger.{entryTests, tickTests}
 use Rattle.demands.specs.Form.{Rules, _unless_then_, _provided_else_, does, refuses}
 use Rattle.demands.specs.Ask.{askRules}
 use Rattle.demands.specs.Arrival.{arrivalRules}
 use Rattle.demands.specs.GiveUp.{giveUpRules}
+use Rattle.demands.specs.Associations as associations
 use Rattle.demands.specs.Measure.{Four, P, Q, measure}
 use Rattle.demands.specs.Read.{read}
 use Rattle.demands.specs.Write.{Fill, write}
@@ -52,6 +54,10 @@ arrivalOrder = tests (29 ∷ 7 ∷ 8 ∷ 9 ∷ 10 ∷ 11 ∷ []) ++ kiss ∷ tes
 
 abbrev pub giveUpOrder : List Place
 giveUpOrder = tests (29 ∷ 8 ∷ 20 ∷ [])
+
+-- before each of these, for a record of a list
+abbrev pub listOrder : List Place
+listOrder = tests (35 ∷ 29 ∷ [])
 
 -- 14 and 17 when synchronised
 abbrev pub replyOrder : List Place
@@ -99,10 +105,20 @@ pub record Both {A O : Type 0} (order : List Place) (table : Tests A) (rules : R
   pub in-table : ofTable table ≡ order
   pub in-rules : ofRules rules ≡ order
 
+abbrev listRules : List Client → (at inUse : ℕ) → associations.Call → Rules associations.Outcome
+listRules list at inUse x = associations.associations .rules (record { list = list; at = at; inUse = inUse; call = x })
+
 pub record Orders : Type 0 where
   pub ask : (c : Client) (x : Ask) → Both askOrder (askTests c (length (x .buffer)) (x .version) (x .clock) (x .uptime)) (askRules c x)
   pub arrival : (c : Client) (x : Arrival) → Both arrivalOrder (arrivalTests c (x .packet) (x .t4)) (arrivalRules c x)
   pub give-up : (c : Client) (x : GiveUp) → Both giveUpOrder (giveUpTests c (x .uptime)) (giveUpRules c x)
+  pub list-ask : (list : List Client) (at inUse : ℕ) (x : Ask)
+      → Both (listOrder ++ askOrder) (listTests list at inUse (askTests (association list at) (length (x .buffer)) (x .version) (x .clock) (x .uptime)))
+      (listRules list at inUse (associations.ask x))
+  pub list-arrival : (list : List Client) (at inUse : ℕ) (x : associations.Arrival)
+      → Both (listOrder ++ arrivalOrder) (listTests list at inUse (arrivalTests (association list at) (x .packet) (x .t4))) (listRules list at inUse (associations.arrival x))
+  pub list-give-up : (list : List Client) (at inUse : ℕ) (x : GiveUp)
+      → Both (listOrder ++ giveUpOrder) (listTests list at inUse (giveUpTests (association list at) (x .uptime))) (listRules list at inUse (associations.giveUp x))
   pub server : (x : Request) → Both replyOrder (replyTests (x .settings) (x .request) (x .t2) (x .t3) (x .buffer)) (reply .rules x)
   pub four : (x : Four) → Both measureOrder (offsetTests (x .t4 since x .t1) (x .t3 since x .t2) (P x) (Q x)) (measure .rules x)
   pub reading : (p : List ℕ) → Both readOrder (readTests p) (read .rules p)
