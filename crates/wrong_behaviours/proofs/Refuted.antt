@@ -37,6 +37,8 @@ use Rattle.client.specs.Arrival as arrivals
 use Rattle.reply_checks.specs.Checks.{waitingTests, checkTests}
 use Rattle.client.specs.GiveUp.{gaveUp, giveUpTests}
 use Rattle.client.specs.Calls.{Call, ask, arrival, giveUp, Result, refused, done, accepted, kiss, Outcome}
+use Rattle.association_rules.specs.Associations.{outside, anyIllegal, firstRunning, alternate}
+use Rattle.kiss.specs.Kiss.{rowOf}
 use Rattle.server.specs.declared.ReplyAnswer.{ReplyAnswer}
 use Rattle.server.specs.Server.{requestTests, replyFields}
 use Rattle.server.specs.Server as server
@@ -47,7 +49,10 @@ use Rattle.frames.specs.Frames.{LineAnswer, callOf}
 use Rattle.demands.specs.Form.{refusal, acceptance, Implementation}
 use Rattle.demands.specs.Client as clients
 use Rattle.demands.specs.Reply.{Request}
-use Rattle.demands.specs.Behaviour.{client, reply, form, ours}
+use Rattle.demands.specs.Associations as associations
+use Rattle.demands.specs.Associations.{Input}
+use Rattle.demands.specs.SeveralServers.{rate}
+use Rattle.demands.specs.Behaviour.{client, association, reply, form, ours}
 use Rattle.demands.specs.Behaviour as behaviour
 use Rattle.demands.specs.Demand3.{Exchange, reading, T2, T3, T4, Orderly, theAsk, theArrival}
 use Rattle.demands.specs.Witnesses.{replay, settings, buffer, run}
@@ -56,7 +61,7 @@ use Rattle.demands.proofs.Form.{acceptance-shown, differs, unique}
 use Rattle.demands.proofs.Each.{each}
 use Rattle.demands.proofs.Witnesses.{orderly}
 use Rattle.wrong_behaviours.specs.Client.{refusing, alwaysWriting, anyVersion, takingNone, stayingWaiting, spending, alwaysStopping, neverStopping, kissFirst, unsignedTimes, rootUntested, negativeDelayUntested, dispersionSigned, rootSwapped, rootAfter15, fixing, measuring, zeroOffset, hugeDelay, halfLost, largeHalf, towardZero, halvedApart}
-use Rattle.wrong_behaviours.specs.Others.{neverReplying, wrongOriginate, fourthYearDates, fourthYearTimestamps, roundedDown, takingEntries, payingAll, refusingLines, droppingDigits, startingAfresh}
+use Rattle.wrong_behaviours.specs.Others.{preferringFirst, forgettingUse, neverReplying, wrongOriginate, fourthYearDates, fourthYearTimestamps, roundedDown, takingEntries, payingAll, refusingLines, droppingDigits, startingAfresh}
 use Rattle.wrong_behaviours.specs.Refuted.{withClient, withServer, Fails1, Fails2, Fails3, Refuted}
 use Rattle.wrong_behaviours.proofs.Exchanges.{slowBack, slowOut, bothOdd, otherServer, waiting, request, replied, with-root, with-kiss, tells-other, near, inBound, concluded, in-bound}
 
@@ -162,6 +167,15 @@ module _ (f : Implementation clients.client) where
     in-bound-at : T (not (inBound e (theArrival (withClient f) (run e) .result))) → Fails3 (withClient f)
     in-bound-at other demand = contradiction (inBound e (theArrival (withClient f) (run e) .result)) (in-bound e o (withClient f) asked demand) other
 
+-- three records that wait for the kiss RATE, one of them called
+abbrev kissed-at : (at inUse : ℕ) → Input
+kissed-at at inUse = record {
+  list = replicate 3 (waiting slowBack);
+  at = at;
+  inUse = inUse;
+  call = associations.arrival (record { packet = rate 5000; t4 = T4 slowBack });
+}
+
 waiting-runs : Waiting ≢ Stopped
 waiting-runs e = subst (λ p. T (not (isStopped p))) e tt
 
@@ -169,7 +183,7 @@ abbrev accepted-ask : acceptance ≢ refusal
 accepted-ask = acceptance-shown .0
 
 pub refuted : Refuted
-unfolding arrived arrivals.arrivalAnswer waitingTests checkTests offsetTests _since_ difference signed _modulo_ floorHalf halfOf offset.outOfRange fieldsOf octetsOf octets requests.request illegal askTests afterAsk afterAskBuffer server.replied server.repliedBuffer server.replyTests requestTests server.outOfRange replyFields reading tooSoon gaveUp giveUpTests bits
+unfolding outside anyIllegal alternate firstRunning rowOf arrived arrivals.arrivalAnswer waitingTests checkTests offsetTests _since_ difference signed _modulo_ floorHalf halfOf offset.outOfRange fieldsOf octetsOf octets requests.request illegal askTests afterAsk afterAskBuffer server.replied server.repliedBuffer server.replyTests requestTests server.outOfRange replyFields reading tooSoon gaveUp giveUpTests bits
 refuted =
     let at-back = orderly slowBack tt in
     let at-out = orderly slowOut tt in
@@ -223,6 +237,9 @@ refuted =
         (λ demand. subst (λ (o : Outcome). T (not (eqb (getD (o .octets) 0 0) 0))) (demand .unchanged (waiting slowBack, ask (record { buffer = buffer; version = 4; clock = T4 slowBack; uptime = 9 })) refl) tt),
         (λ demand. subst (λ (o : Outcome). T (not (eqb (getD (o .octets) 0 0) 0))) (concluded slowBack at-back (withClient alwaysWriting) accepted-ask demand .refusals .0 .is) tt),
       );
+      -- record 0 is kissed and use moves to record 1; record 1 is kissed while record 0 is in use, and use stays at 0
+      prefers-first = differs (each association .answers) (kissed-at 0 0) (λ o. eqb (o .inUse) 0) tt tt;
+      forgets-use = differs (each association .answers) (kissed-at 1 0) (λ o. eqb (o .inUse) 1) tt tt;
       never-replies = λ number. (
         differs (each reply .answers) (request slowBack) (λ w. not (is-written (w .answer))) tt tt,
         (λ demand. subst (λ a. T (is-written a)) (sym (concluded slowBack at-back (withServer (neverReplying number)) accepted-ask demand .answered)) tt),

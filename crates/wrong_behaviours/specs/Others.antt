@@ -30,6 +30,8 @@ use Rattle.ledger.specs.declared.TickAnswer.{TickAnswer}
 use Rattle.hex_decode.specs.Decoding.{decode}
 use Rattle.frames.specs.Frames.{Parsed, call, malformed, parsed}
 use Rattle.demands.specs.Form.{Implementation}
+use Rattle.demands.specs.Associations as lists
+use Rattle.demands.specs.Associations.{Input, Outcome, associations}
 use Rattle.demands.specs.Reply as replies
 use Rattle.demands.specs.Reply.{Request, reply}
 use Rattle.demands.specs.Read.{read}
@@ -42,6 +44,24 @@ use Rattle.demands.specs.Entry.{entry, owed}
 use Rattle.demands.specs.Tick.{tick}
 use Rattle.demands.specs.Line as lines
 use Rattle.demands.specs.Line.{line}
+
+-- ---- the list: what is in use after a call
+
+abbrev inUseBy : (Input → Outcome → ℕ) → Implementation associations
+inUseBy number i = record {
+  result = lists.ours i .result;
+  list = lists.ours i .list;
+  inUse = number i (lists.ours i);
+  octets = lists.ours i .octets;
+}
+
+-- where use moves, it moves to record 0
+abbrev pub preferringFirst : Implementation associations
+preferringFirst = inUseBy (λ i o. cond (eqb (o .inUse) (i .inUse)) (i .inUse) 0)
+
+-- it does not keep the number in use, and hands back the number of the record that was called
+abbrev pub forgettingUse : Implementation associations
+forgettingUse = inUseBy (λ i o. i .at)
 
 -- ---- the server
 

@@ -11,16 +11,17 @@ use Rattle.demands.specs.Client as clients
 use Rattle.demands.specs.Reply as replies
 use Rattle.demands.specs.Reply.{Request}
 use Rattle.demands.specs.Line.{carrying}
-use Rattle.demands.specs.Behaviour.{Operation, client, reply, measure, read, write, date, timestamp, precision, entry, tick, line, form, Behaviour, ours}
+use Rattle.demands.specs.Behaviour.{Operation, client, association, reply, measure, read, write, date, timestamp, precision, entry, tick, line, form, Behaviour, ours}
 use Rattle.demands.specs.Demand2.{Demand2}
 use Rattle.demands.specs.Demand3.{Demand3}
 use Rattle.demands.specs.SingleServer.{NeverStops}
 use Rattle.wrong_behaviours.specs.Client.{laterStart, refusing, alwaysWriting, anyVersion, takingNone, stayingWaiting, spending, alwaysStopping, neverStopping, kissFirst, unsignedTimes, rootUntested, negativeDelayUntested, dispersionSigned, rootSwapped, rootAfter15, fixing, measuring, zeroOffset, hugeDelay, halfLost, largeHalf, towardZero, halvedApart}
-use Rattle.wrong_behaviours.specs.Others.{neverReplying, wrongOriginate, replyingAnyway, readingNothing, writingNothing, fourthYearDates, fourthYearTimestamps, roundedDown, refusingEntries, takingEntries, payingAll, refusingLines, droppingDigits, startingAfresh}
+use Rattle.wrong_behaviours.specs.Others.{preferringFirst, forgettingUse, neverReplying, wrongOriginate, replyingAnyway, readingNothing, writingNothing, fourthYearDates, fourthYearTimestamps, roundedDown, refusingEntries, takingEntries, payingAll, refusingLines, droppingDigits, startingAfresh}
 
 -- ours with this client
 abbrev clientOf : Implementation clients.client → (x : Operation) → Implementation (form x)
 clientOf f client = f
+clientOf f association = ours .does association
 clientOf f reply = ours .does reply
 clientOf f measure = ours .does measure
 clientOf f read = ours .does read
@@ -38,6 +39,7 @@ withClient f = record { fresh = ours .fresh; opened = ours .opened; does = clien
 -- ours with this server
 abbrev serverOf : Implementation replies.reply → (x : Operation) → Implementation (form x)
 serverOf f client = ours .does client
+serverOf f association = ours .does association
 serverOf f reply = f
 serverOf f measure = ours .does measure
 serverOf f read = ours .does read
@@ -102,6 +104,9 @@ pub record Refuted : Type 0 where
   pub root-after-15 : Fails2 client rootAfter15
   pub spends-the-request : Fails1 client spending × Fails3 (withClient spending)
   pub writes-when-refused : Fails1 client alwaysWriting × Fails3 (withClient alwaysWriting)
+  -- the list
+  pub prefers-first : Fails2 association preferringFirst
+  pub forgets-use : Fails2 association forgettingUse
   -- the server
   pub never-replies : (number : Request → ℕ) → Server23 (neverReplying number)
   pub wrong-originate : Server23 wrongOriginate
