@@ -1,2 +1,3 @@
 pub mod Associations
 pub mod Alternates
+pub mod Table

@@ -27,7 +27,7 @@ impl Phase {
         }
     }
 
-    pub(crate) fn is_stopped(self) -> bool
+    pub fn is_stopped(self) -> bool
         ensures { λ r. ⌜ r ≡ isStopped self ⌝ }
     {
         match self {
@@ -66,7 +66,7 @@ impl Client {
             & (self.exponent == 6)
     }
 
-    pub(crate) fn illegal(self) -> bool
+    pub fn illegal(self) -> bool
         ensures { λ r. ⌜ r ≡ illegal self ⌝ }
     {
         let phase = self.phase;
