@@ -35,28 +35,28 @@ Finds list at Alternate.None = StoppedBefore list at (length list)
 Finds list at (Alternate.Record i) = First list at i
 
 module _ (list : List Client) (at : ℕ) where
-  further : (k : ℕ) → StoppedBefore list at k → IsStopped list (round list at k) → StoppedBefore list at (suc k)
+  further : (k : ℕ) → StoppedBefore list at k → IsStopped list (round (length list) at k) → StoppedBefore list at (suc k)
   further k before here j one below = go (ltb j k) refl
     where
-      go : (b : Bool) → ltb j k ≡ b → IsStopped list (round list at j)
+      go : (b : Bool) → ltb j k ≡ b → IsStopped list (round (length list) at j)
       go true e = before j one (ltb-true j k e)
-      go false e = let same : k ≡ j = let h = ltb-false j k e in omega arith in subst (λ n. IsStopped list (round list at n)) same here
+      go false e = let same : k ≡ j = let h = ltb-false j k e in omega arith in subst (λ n. IsStopped list (round (length list) at n)) same here
 
-  searched : (k count : ℕ) → 1 ≤ k → k + count ≡ length list → StoppedBefore list at k → Finds list at (firstRunning list at k count)
+  searched : (k count : ℕ) → 1 ≤ k → k + count ≡ length list → StoppedBefore list at k → Finds list at (firstRunning (length list) list at k count)
   unfolding firstRunning
   searched k zero one all before = subst (StoppedBefore list at) (let h : k ≡ length list = omega (arith, all) in h) before
   searched k (suc count) one all before =
-      go (isStopped (association list (round list at k) .phase)) refl
+      go (isStopped (association list (round (length list) at k) .phase)) refl
       (λ here. searched (suc k) count (omega arith) (omega (arith, all)) (further k before here))
     where
-      go : (b : Bool) → isStopped (association list (round list at k) .phase) ≡ b
-          → (IsStopped list (round list at k) → Finds list at (firstRunning list at (suc k) count))
-          → Finds list at (cond b (firstRunning list at (suc k) count) (Alternate.Record (round list at k)))
+      go : (b : Bool) → isStopped (association list (round (length list) at k) .phase) ≡ b
+          → (IsStopped list (round (length list) at k) → Finds list at (firstRunning (length list) list at (suc k) count))
+          → Finds list at (cond b (firstRunning (length list) list at (suc k) count) (Alternate.Record (round (length list) at k)))
       go true e rest = rest (stopped-is _ e)
       go false e rest = record { k = k; other = (one, omega (arith, all)); is = refl; runs = runs-is _ e; before = before }
 
 finds : (list : List Client) (at : ℕ) → Finds list at (alternate list at)
-unfolding alternate firstRunning
+unfolding firstRunning
 finds [] at = λ j one below. absurd (omega arith)
 finds (c ∷ rest) at = searched (c ∷ rest) at 1 (length (c ∷ rest) - 1) (omega arith) (omega arith) (λ j one below. absurd (omega arith))
 

@@ -15,13 +15,13 @@ module _ (list : List Client) where
 
   -- the records from 1 place after `at` up to k places, k not included, are stopped
   abbrev pub StoppedBefore : (at k : ℕ) → Type 0
-  StoppedBefore at k = (j : ℕ) → 1 ≤ j → j < k → IsStopped (round list at j)
+  StoppedBefore at k = (j : ℕ) → 1 ≤ j → j < k → IsStopped (round (length list) at j)
 
   -- i is the first that is not stopped, k places after `at`
   pub record First (at i : ℕ) : Type 0 where
     pub k : ℕ
     pub other : (1 ≤ k) × (k < length list)
-    pub is : i ≡ round list at k
+    pub is : i ≡ round (length list) at k
     pub runs : association list i .phase ≢ Stopped
     pub before : StoppedBefore at k
 

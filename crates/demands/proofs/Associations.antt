@@ -13,12 +13,17 @@ use Rattle.ordered_tests.specs.Tests as tests
 use Rattle.client.specs.declared.Client.{Client}
 use Rattle.client.specs.Record.{fresh}
 use Rattle.client.specs.Calls as calls
-use Rattle.association_rules.specs.Associations.{outside, anyIllegal, association}
+use Rattle.association_rules.specs.Associations as rules
+use Rattle.association_rules.specs.Associations.{outside, anyIllegal, association, alternate, exists, askedFor, listAfterAsk, bufferAfterAsk, gaveUpFor, listAfterGiveUp, arrivedAt, arrivedFor, listAfterArrival}
+use Rattle.client.specs.declared.CallAnswer.{CallAnswer}
+use Rattle.reply_checks.specs.declared.ArrivalAnswer.{ArrivalAnswer}
+use Rattle.client.specs.Ask.{afterAsk}
+use Rattle.client.specs.GiveUp.{gaveUp}
 use Rattle.demands.specs.Form.{Form}
 use Rattle.demands.specs.Wrapper.{Wrapper, wrapped, through}
 use Rattle.demands.specs.Client as clients
 use Rattle.demands.specs.Client.{callRules, client}
-use Rattle.demands.specs.Associations.{Call, ask, arrival, giveUp, Input, Outcome, InList, AllLegal, at-record, placed, lent, associations, table, ours}
+use Rattle.demands.specs.Associations.{Call, ask, arrival, giveUp, Input, Outcome, InList, AllLegal, useAfter, at-record, placed, lent, associations, table, ours}
 use Rattle.ordered_tests.proofs.Reflection.{WhereFalse, negated, both, is-false, is-below, within}
 use Rattle.demands.proofs.Form.{Meets, Each, Accepted, numbered, by, acceptance-shown, kiss-shown, Wraps, wrapped-meets, Leads, _before_, inner, led}
 use Rattle.demands.proofs.Legal.{legal}
@@ -26,7 +31,7 @@ use Rattle.demands.proofs.Client.{client-meets}
 
 -- ---- the two tests
 
-in-list : (list : List Client) (at inUse : ℕ) → WhereFalse (InList list at inUse) (outside list at inUse)
+in-list : (list : List Client) (at inUse : ℕ) → WhereFalse (InList list at inUse) (outside (length list) at inUse)
 unfolding outside
 in-list list at inUse =
     let all = both (both (negated (within 1 8 (length list))) (negated (is-below at (length list)))) (negated (is-below inUse (length list))) in
@@ -58,9 +63,9 @@ leads i = in-list (i .list) (i .at) (i .inUse) before all-legal (i .list) before
 module _ (i : Input) where
   -- the tests before the client's give 35, 29, or the client's call at the record
   decided : (P : Given (Client × calls.Call) → Type 0) → P (refused 35) → P (refused 29) → P (answered (at-record i)) → P (tests.given (table i))
-  decided P out illegal in-it = go (outside (i .list) (i .at) (i .inUse)) (anyIllegal (i .list)) refl refl
+  decided P out illegal in-it = go (outside (length (i .list)) (i .at) (i .inUse)) (anyIllegal (i .list)) refl refl
     where
-      go : (a b : Bool) → outside (i .list) (i .at) (i .inUse) ≡ a → anyIllegal (i .list) ≡ b → P (tests.given (table i))
+      go : (a b : Bool) → outside (length (i .list)) (i .at) (i .inUse) ≡ a → anyIllegal (i .list) ≡ b → P (tests.given (table i))
       go true b e f = rw e out
       go false true e f = rw (e, f) illegal
       go false false e f = rw (e, f) in-it
@@ -82,20 +87,43 @@ module _ (i : Input) where
       same (arrival x) e = rw e (λ j. record { result = calls.refused n; list = set-getD (i .list) (i .at) fresh j; inUse = i .inUse; octets = x .packet })
       same (giveUp x) e = rw e (λ j. record { result = calls.refused n; list = set-getD (i .list) (i .at) fresh j; inUse = i .inUse; octets = [] })
 
+  -- use stays after an ask and a give-up, and follows the answer of an arrival
+  call-use : (a : CallAnswer) → i .inUse ≡ useAfter (calls.saidCall a) (alternate (i .list) (i .at)) (i .at) (i .inUse)
+  call-use (CallAnswer.Refused n) = refl
+  call-use CallAnswer.Done = refl
+
+  arrival-use : (a : ArrivalAnswer) → rules.useAfter a (alternate (i .list) (i .at)) (i .at) (i .inUse) ≡ useAfter (calls.saidArrival a) (alternate (i .list) (i .at)) (i .at) (i .inUse)
+  arrival-use (ArrivalAnswer.Refused n) = refl
+  arrival-use (ArrivalAnswer.Accepted offset half delay) = refl
+  arrival-use (ArrivalAnswer.Kiss code row) = refl
+
+  -- the client's outcome in its place, with this number in use
+  abbrev in-use : calls.Outcome → ℕ → Outcome
+  in-use o n = record { result = o .result; list = set (i .list) (i .at) (o .next); inUse = n; octets = o .octets }
+
+  by-call : (x : Call) → i .call ≡ x → (a b : Bool) → outside (length (i .list)) (i .at) (i .inUse) ≡ a → anyIllegal (i .list) ≡ b → ours i ≡ through client listing clients.ours i
+  unfolding askedFor listAfterAsk bufferAfterAsk gaveUpFor listAfterGiveUp arrivedFor listAfterArrival
+  by-call (ask x) c true b e f = rw (c, e) refl
+  by-call (ask x) c false true e f = rw (c, e, f) refl
+  by-call (ask x) c false false e f = rw (c, e, f) (ap (in-use (calls.asks (at-record i .0) x)) (call-use (afterAsk (at-record i .0) (length (x .buffer)) (x .version) (x .clock) (x .uptime) .answer)))
+  by-call (arrival x) c true b e f = rw (c, e) refl
+  by-call (arrival x) c false true e f = rw (c, e, f) refl
+  by-call (arrival x) c false false e f =
+      rw (c, e, f) (ap (in-use (calls.arrives (at-record i .0) (record { packet = x .packet; t4 = x .t4; alternate = exists (alternate (i .list) (i .at)) })))
+      (arrival-use (arrivedAt (i .list) (i .at) (x .packet) (x .t4) .answer)))
+  by-call (giveUp x) c true b e f = rw (c, e) refl
+  by-call (giveUp x) c false true e f = rw (c, e, f) refl
+  by-call (giveUp x) c false false e f = rw (c, e, f) (ap (in-use (calls.givesUp (at-record i .0) x)) (call-use (gaveUp (at-record i .0) (x .uptime) .answer)))
+
+  is-ours : ours i ≡ through client listing clients.ours i
+  is-ours = by-call (i .call) refl (outside (length (i .list)) (i .at) (i .inUse)) (anyIllegal (i .list)) refl refl
+
   -- in the list and with all records legal, the client's call is made at the record
   pub in-place : InList (i .list) (i .at) (i .inUse) → AllLegal (i .list) → ours i ≡ placed i (calls.step (at-record i .0) (at-record i .1))
   in-place inside legal =
-      let e = is-false (outside (i .list) (i .at) (i .inUse)) .from (in-list (i .list) (i .at) (i .inUse) .to inside) in
+      let e = is-false (outside (length (i .list)) (i .at) (i .inUse)) .from (in-list (i .list) (i .at) (i .inUse) .to inside) in
       let f = is-false (anyIllegal (i .list)) .from (all-legal (i .list) .to legal) in
-      rw (e, f) refl
-
-  is-ours : ours i ≡ through client listing clients.ours i
-  is-ours = go (outside (i .list) (i .at) (i .inUse)) (anyIllegal (i .list)) refl refl
-    where
-      go : (a b : Bool) → outside (i .list) (i .at) (i .inUse) ≡ a → anyIllegal (i .list) ≡ b → ours i ≡ through client listing clients.ours i
-      go true b e f = rw e refl
-      go false true e f = rw (e, f) refl
-      go false false e f = rw (e, f) refl
+      is-ours ∙ rw (e, f) refl
 
 shows-accepted : (i : Input) (c : Client) (x : calls.Call) → Each (λ o. Accepted associations (placed i o)) (callRules c x)
 shows-accepted i c (calls.ask x) = acceptance-shown

@@ -21,7 +21,7 @@ use Rattle.client.specs.Ask.{askTests, afterAsk}
 use Rattle.client.specs.Arrival.{arrivalAnswer, arrived}
 use Rattle.client.specs.Calls as calls
 use Rattle.association_rules.specs.declared.Alternate.{Alternate}
-use Rattle.association_rules.specs.Associations.{outside, anyIllegal, association, firstRunning, alternate, exists}
+use Rattle.association_rules.specs.Associations.{outside, anyIllegal, association, firstRunning, alternate, exists, askedFor, listAfterAsk, arrivedFor, listAfterArrival}
 use Rattle.association_rules.proofs.Alternates.{alternates}
 use Rattle.demands.specs.Client.{callRules}
 use Rattle.demands.specs.Behaviour.{ours}
@@ -160,5 +160,5 @@ use-runs s (x ∷ xs) runs = use-runs (left ours (does ours s x)) xs (use-kept s
 -- ---- the worked case
 
 pub worked : Worked
-unfolding outside anyIllegal alternate firstRunning arrived arrivalAnswer waitingTests checkTests fieldsOf octets rowOf illegal askTests afterAsk tooSoon
+unfolding outside anyIllegal firstRunning askedFor listAfterAsk arrivedFor listAfterArrival arrived arrivalAnswer waitingTests checkTests fieldsOf octets rowOf illegal askTests afterAsk tooSoon
 worked = record { moved = refl; backed-off = refl }

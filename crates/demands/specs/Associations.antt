@@ -1,16 +1,15 @@
 -- A call for one of a gateway's associations: the client's call at that record, with 35 and 29 before it.
 use Prim.Native.Nat.{ℕ, _≤_, _<_}
-use mathlib.Core.Bool.{Bool, cond}
+use mathlib.Core.Bool.{Bool}
 use mathlib.Core.List.{List, [], _∷_}
-use lib.Dec.{eqb}
 use lib.ListN.{length, set}
 use Rattle.refusals.specs.Numbers.{not-in-list, record-not-legal}
-use Rattle.ordered_tests.specs.Tests.{Tests, otherwise, pass, answer, kept}
+use Rattle.ordered_tests.specs.Tests.{Tests, otherwise}
 use Rattle.timestamp.specs.declared.Timestamp.{Timestamp}
 use Rattle.client.specs.declared.Client.{Client}
 use Rattle.client.specs.Calls as calls
 use Rattle.association_rules.specs.declared.Alternate.{Alternate}
-use Rattle.association_rules.specs.Associations.{listTests, association, alternate, exists, listAfter}
+use Rattle.association_rules.specs.Associations.{listTests, association, alternate, exists, useAfterKiss, askedFor, listAfterAsk, bufferAfterAsk, gaveUpFor, listAfterGiveUp, arrivedFor, listAfterArrival}
 use Rattle.demands.specs.Form.{_unless_then_, Form, Implementation}
 use Rattle.demands.specs.Wrapper.{mapRules}
 use Rattle.demands.specs.Legal.{Legal}
@@ -50,10 +49,9 @@ abbrev pub AllLegal : List Client → Type 0
 AllLegal [] = Unit {0}
 AllLegal (c ∷ rest) = Legal c × AllLegal rest
 
--- after a kiss of the record in use the alternate is in use, where there is one
+-- use moves after a kiss alone
 abbrev pub useAfter : calls.Result → Alternate → (at inUse : ℕ) → ℕ
-useAfter (calls.kiss code row) (Alternate.Record i) at inUse = cond (eqb at inUse) i inUse
-useAfter (calls.kiss code row) Alternate.None at inUse = inUse
+useAfter (calls.kiss code row) a at inUse = useAfterKiss a at inUse
 useAfter (calls.refused n) a at inUse = inUse
 useAfter calls.done a at inUse = inUse
 useAfter (calls.accepted offset half delay) a at inUse = inUse
@@ -100,12 +98,25 @@ associations = record {
 abbrev pub table : Input → Tests (Client × calls.Call)
 table i = listTests (i .list) (i .at) (i .inUse) (otherwise (at-record i))
 
+abbrev does : List Client → (at inUse : ℕ) → Call → Outcome
+does list at inUse (ask x) = record {
+  result = calls.saidCall (askedFor list at inUse (length (x .buffer)) (x .version) (x .clock) (x .uptime) .answer);
+  list = listAfterAsk list at inUse (length (x .buffer)) (x .version) (x .clock) (x .uptime);
+  inUse = askedFor list at inUse (length (x .buffer)) (x .version) (x .clock) (x .uptime) .«in_use»;
+  octets = bufferAfterAsk list at inUse (x .buffer) (x .version) (x .clock) (x .uptime);
+}
+does list at inUse (arrival x) = record {
+  result = calls.saidArrival (arrivedFor list at inUse (x .packet) (x .t4) .answer);
+  list = listAfterArrival list at inUse (x .packet) (x .t4);
+  inUse = arrivedFor list at inUse (x .packet) (x .t4) .«in_use»;
+  octets = x .packet;
+}
+does list at inUse (giveUp x) = record {
+  result = calls.saidCall (gaveUpFor list at inUse (x .uptime) .answer);
+  list = listAfterGiveUp list at inUse (x .uptime);
+  inUse = gaveUpFor list at inUse (x .uptime) .«in_use»;
+  octets = [];
+}
+
 abbrev pub ours : Implementation associations
-ours i =
-    let o = calls.step (at-record i .0) (at-record i .1) in
-    record {
-      result = answer calls.refused (listTests (i .list) (i .at) (i .inUse) (otherwise (o .result)));
-      list = listAfter (i .list) (i .at) (i .inUse) (o .next);
-      inUse = kept (listTests (i .list) (i .at) (i .inUse) pass) (i .inUse) (placed i o .inUse);
-      octets = kept (listTests (i .list) (i .at) (i .inUse) pass) (lent (i .call)) (o .octets);
-    }
+ours i = does (i .list) (i .at) (i .inUse) (i .call)

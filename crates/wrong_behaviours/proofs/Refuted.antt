@@ -37,7 +37,7 @@ use Rattle.client.specs.Arrival as arrivals
 use Rattle.reply_checks.specs.Checks.{waitingTests, checkTests}
 use Rattle.client.specs.GiveUp.{gaveUp, giveUpTests}
 use Rattle.client.specs.Calls.{Call, ask, arrival, giveUp, Result, refused, done, accepted, kiss, Outcome}
-use Rattle.association_rules.specs.Associations.{outside, anyIllegal, firstRunning, alternate}
+use Rattle.association_rules.specs.Associations.{outside, anyIllegal, firstRunning, arrivedFor, listAfterArrival}
 use Rattle.kiss.specs.Kiss.{rowOf}
 use Rattle.server.specs.declared.ReplyAnswer.{ReplyAnswer}
 use Rattle.server.specs.Server.{requestTests, replyFields}
@@ -183,7 +183,7 @@ abbrev accepted-ask : acceptance ≢ refusal
 accepted-ask = acceptance-shown .0
 
 pub refuted : Refuted
-unfolding outside anyIllegal alternate firstRunning rowOf arrived arrivals.arrivalAnswer waitingTests checkTests offsetTests _since_ difference signed _modulo_ floorHalf halfOf offset.outOfRange fieldsOf octetsOf octets requests.request illegal askTests afterAsk afterAskBuffer server.replied server.repliedBuffer server.replyTests requestTests server.outOfRange replyFields reading tooSoon gaveUp giveUpTests bits
+unfolding outside anyIllegal firstRunning arrivedFor listAfterArrival rowOf arrived arrivals.arrivalAnswer waitingTests checkTests offsetTests _since_ difference signed _modulo_ floorHalf halfOf offset.outOfRange fieldsOf octetsOf octets requests.request illegal askTests afterAsk afterAskBuffer server.replied server.repliedBuffer server.replyTests requestTests server.outOfRange replyFields reading tooSoon gaveUp giveUpTests bits
 refuted =
     let at-back = orderly slowBack tt in
     let at-out = orderly slowOut tt in
