@@ -16,11 +16,11 @@ pub enum Told {
     Kiss { code: [u8; 4], row: u8 },
 }
 
-/// An arrival that is not refused: what it tells, and the client after it.
+/// An arrival that is not refused: what it tells, and the next record or list.
 #[derive(Clone, Copy, PartialEq, Eq, Debug)]
-pub struct Arrived {
+pub struct Arrived<T = Client> {
     pub told: Told,
-    pub client: Client,
+    pub next: T,
 }
 
 /// `alternate` says whether there is another server to go to, and is looked at in a kiss alone.
@@ -42,18 +42,18 @@ pub fn arrival(
     OwnClockZero.when(t4 == 0)?;
     test_fields(&fields)?;
     let measured = timestamp::measure(client.transmit, fields.receive, fields.transmit, t4)?;
-    let client = without_request(client, Phase::Idle, LEAST_EXPONENT);
-    Ok(Arrived { told: Told::Accepted(measured), client })
+    let next = without_request(client, Phase::Idle, LEAST_EXPONENT);
+    Ok(Arrived { told: Told::Accepted(measured), next })
 }
 
 /// With an alternate the client stops; without one it backs off.
 fn kissed(client: &Client, code: [u8; 4], alternate: bool) -> Arrived {
-    let client = if alternate {
+    let next = if alternate {
         without_request(client, Phase::Stopped, client.exponent)
     } else {
         without_request(client, Phase::Idle, raised(client.exponent))
     };
-    Arrived { told: Told::Kiss { code, row: kiss::row(code) }, client }
+    Arrived { told: Told::Kiss { code, row: kiss::row(code) }, next }
 }
 
 /// The tests of a reply that need nothing but its own fields.

@@ -2,6 +2,7 @@
 
 pub mod answer;
 pub mod call;
+pub mod list_call;
 pub mod records;
 
 use crate::hex_lines::answer_lines;

@@ -6,6 +6,7 @@ pub mod conformance;
 pub mod faults;
 mod fixed;
 mod ledger_calls;
+mod list_calls;
 mod malformed;
 pub mod packets;
 mod plain_calls;

@@ -38,13 +38,14 @@ pub enum Refusal {
     LimitOutOfRange = 32,
     RootDelayOutOfRange = 33,
     RootDispersionTooLarge = 34,
+    NotInList = 35,
     LineMalformed = 64,
 }
 
 use Refusal::*;
 
 /// All refusals, in the order of their numbers.
-const ALL: [Refusal; 35] = [
+const ALL: [Refusal; 36] = [
     BufferTooShort,
     VersionUnsupported,
     OwnClockZero,
@@ -79,6 +80,7 @@ const ALL: [Refusal; 35] = [
     LimitOutOfRange,
     RootDelayOutOfRange,
     RootDispersionTooLarge,
+    NotInList,
     LineMalformed,
 ];
 
@@ -133,7 +135,7 @@ mod tests {
     #[test]
     fn numbers_there_and_back() {
         for number in 0..=255 {
-            let known = (1..=34).contains(&number) || number == 64;
+            let known = (1..=35).contains(&number) || number == 64;
             let back = Refusal::of_number(number).map(Refusal::number);
             assert_eq!(back, known.then_some(number));
         }

@@ -64,7 +64,7 @@ fn call(client: &mut Client, line: &[u8], out: &mut Vec<u8>) -> Result<(), Refus
         }
         Frame::Arrival { clock, packet } => {
             let arrived = arrival(client, packet, clock, ALTERNATE)?;
-            *client = arrived.client;
+            *client = arrived.next;
             put_told(&arrived.told, out);
         }
         Frame::GiveUp { uptime } => {

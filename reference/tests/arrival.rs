@@ -56,11 +56,11 @@ fn outcome_with(alternate: bool, fields: Fields, t4: u64) -> Outcome {
         Err(refusal) => Refused(refusal),
         Ok(arrived) => match arrived.told {
             Told::Accepted(_) => {
-                assert_eq!(arrived.client, idle);
+                assert_eq!(arrived.next, idle);
                 Accepted
             }
             Told::Kiss { code, row } => {
-                assert_eq!(arrived.client, if alternate { stopped } else { backed_off });
+                assert_eq!(arrived.next, if alternate { stopped } else { backed_off });
                 assert_eq!(code, fields.identifier);
                 Kiss(row)
             }
@@ -180,7 +180,7 @@ fn kisses_at_each_exponent() {
         let without = arrival(&waiting, &kiss, T, false).unwrap();
         let with = arrival(&waiting, &kiss, T, true).unwrap();
         assert_eq!(without.told, with.told);
-        assert_eq!(without.client, Client { exponent: raised, ..idle });
-        assert_eq!(with.client, Client { phase: Phase::Stopped, exponent, ..idle });
+        assert_eq!(without.next, Client { exponent: raised, ..idle });
+        assert_eq!(with.next, Client { phase: Phase::Stopped, exponent, ..idle });
     }
 }

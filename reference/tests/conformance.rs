@@ -92,6 +92,92 @@ fn give_ups() {
     assert_eq!(one(&format!("0A{illegal}0000000000000016")), format!("1D{illegal}"));
 }
 
+/// A call's answer, for a list of the record count, the number in use, the record number and the
+/// records.
+fn of_list(operation: &str, head: [usize; 3], records: &[&str], rest: &str) -> String {
+    let head: String = head.map(|octet| format!("{octet:02X}")).concat();
+    one(&format!("{operation}{head}{}{rest}", records.concat()))
+}
+
+#[test]
+fn asks_for_a_record_of_a_list() {
+    let ask = |head, records: &[&str], n| {
+        of_list("0E", head, records, &format!("{n}04FFFFFFFA000000000000000000000007"))
+    };
+    let request = format!("23{}FFFFFFFA00000000", "00".repeat(39));
+    let text = ask([2, 0, 1], &[STOPPED, FRESH], "30");
+    assert_eq!(text, format!("0000{STOPPED}{WAITING}{request}"));
+    assert_eq!(ask([2, 1, 0], &[STOPPED, FRESH], "00"), format!("0101{STOPPED}{FRESH}"));
+    assert_eq!(ask([2, 1, 0], &[STOPPED, FRESH], "02"), format!("0101{STOPPED}{FRESH}5A5B"));
+    assert_eq!(ask([0, 3, 7], &[], "02"), "23035A5B");
+    assert_eq!(ask([1, 0, 1], &[FRESH], "02"), format!("2300{FRESH}5A5B"));
+    assert_eq!(ask([1, 255, 0], &[FRESH], "02"), format!("23FF{FRESH}5A5B"));
+    assert_eq!(ask([9, 0, 0], &[FRESH; 9], "00"), format!("2300{}", FRESH.repeat(9)));
+    assert_eq!(ask([8, 7, 0], &[FRESH; 8], "00"), format!("0107{}", FRESH.repeat(8)));
+    let illegal = "0000000000000000000000000000000000000007";
+    assert_eq!(ask([2, 0, 0], &[FRESH, illegal], "00"), format!("1D00{FRESH}{illegal}"));
+}
+
+#[test]
+fn arrivals_for_a_record_of_a_list() {
+    let arrival = |head, records: &[&str], packet: &str| {
+        of_list("0F", head, records, &format!("FFFFFFFBC0000000{packet}"))
+    };
+    let zeros = |count: usize| "00".repeat(count);
+    let kiss = REPLY.replacen("2401", "2400", 1).replacen("47505300", "52415445", 1);
+    let text = arrival([2, 0, 1], &[STOPPED, WAITING], REPLY);
+    let measured = "000000000A200000000000000000C0000000";
+    assert_eq!(text, format!("01{measured}{}{STOPPED}{IDLE}", zeros(6)));
+    let told = format!("0200{}524154450C", zeros(17));
+    let text = arrival([3, 1, 1], &[IDLE, WAITING, STOPPED], &kiss);
+    assert_eq!(text, format!("{told}00{IDLE}{STOPPED}{STOPPED}"));
+    let text = arrival([3, 2, 1], &[IDLE, WAITING, STOPPED], &kiss);
+    assert_eq!(text, format!("{told}02{IDLE}{STOPPED}{STOPPED}"));
+    let text = arrival([2, 1, 1], &[STOPPED, WAITING], &kiss);
+    assert_eq!(text, format!("{told}01{STOPPED}{RAISED}"));
+    let text = arrival([1, 0, 0], &[WAITING], "");
+    assert_eq!(text, format!("0007{}00{WAITING}", zeros(22)));
+    assert_eq!(arrival([0, 8, 0], &[], REPLY), format!("0023{}08", zeros(22)));
+}
+
+#[test]
+fn give_ups_for_a_record_of_a_list() {
+    let give_up = |head, records: &[&str], seconds| {
+        of_list("10", head, records, &format!("00000000000000{seconds}"))
+    };
+    let text = give_up([2, 0, 1], &[WAITING, WAITING], "17");
+    assert_eq!(text, format!("0000{WAITING}{RAISED}"));
+    assert_eq!(give_up([2, 0, 1], &[FRESH, WAITING], "16"), format!("1400{FRESH}{WAITING}"));
+    assert_eq!(give_up([2, 1, 0], &[FRESH, WAITING], "16"), format!("0801{FRESH}{WAITING}"));
+    assert_eq!(give_up([2, 2, 0], &[FRESH, WAITING], "16"), format!("2302{FRESH}{WAITING}"));
+}
+
+#[test]
+fn malformed_lists() {
+    let give_up = |count: u8, records: &[&str], rest: &str| {
+        one(&format!("10{count:02X}0000{}{rest}", records.concat()))
+    };
+    let uptime = "0000000000000017";
+    assert_eq!(give_up(0, &[], uptime), "2300");
+    for count in [1, 9, 10, 255] {
+        assert_eq!(give_up(count, &[], uptime), "40");
+    }
+    assert_eq!(give_up(10, &[FRESH; 10], uptime), "40");
+    assert_eq!(give_up(9, &[FRESH; 8], uptime), "40");
+    assert_eq!(give_up(8, &[FRESH; 9], uptime), "40");
+    assert_eq!(give_up(1, &[FRESH], "00000000000017"), "40");
+    assert_eq!(give_up(1, &[FRESH], "000000000000000017"), "40");
+    let wrong_phase = FRESH.replacen("00", "03", 1);
+    let wrong_flag = WAITING.replacen("0401", "0402", 1);
+    assert_eq!(give_up(2, &[FRESH, &wrong_phase], uptime), "40");
+    assert_eq!(give_up(2, &[FRESH, &wrong_flag], uptime), "40");
+    assert_eq!(give_up(9, &[&[FRESH; 8][..], &[&wrong_flag]].concat(), uptime), "40");
+    let ask = |n| one(&format!("0E000000{n}04FFFFFFFA000000000000000000000007"));
+    assert_eq!((ask("50").len(), ask("51").as_str()), (4 + 160, "40"));
+    let arrival = |length: usize| one(&format!("0F000000{}", "00".repeat(8 + length)));
+    assert_eq!((arrival(80).len(), arrival(81).as_str()), (50, "40"));
+}
+
 #[test]
 fn calls_on_a_ledger() {
     let zero = "0000000000000000";
@@ -123,7 +209,7 @@ fn malformed_by_their_characters() {
 
 #[test]
 fn malformed_by_their_operation_or_length() {
-    for line in ["00", "0E", "F3", "F000", "0100", "0C", "0D"] {
+    for line in ["00", "11", "F3", "F000", "0100", "0C", "0D", "0E", "0F", "10"] {
         assert_eq!(one(line), "40", "{line:?}");
     }
     assert_eq!(one("03"), "07");

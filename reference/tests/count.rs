@@ -35,6 +35,28 @@ fn conformance_lines_reach_everything() {
     }
 }
 
+/// The rows that never occurred where no line begins with these digits.
+fn missing_without(digits: &str) -> Vec<String> {
+    let lines = String::from_utf8_lossy(&conformance_lines(1)).to_ascii_uppercase();
+    let left: Vec<&str> = lines.split('\n').filter(|line| !line.starts_with(digits)).collect();
+    let lines = left.join("\n");
+    let mut answers = Vec::new();
+    conformance::run(lines.as_bytes(), &mut answers).unwrap();
+    let mut counter = count::conformance::counter();
+    counter.count(lines.as_bytes(), &answers[..]).unwrap();
+    counter.missing()
+}
+
+#[test]
+fn lists_that_are_missing_are_found() {
+    assert_eq!(missing_without("0E00"), ["0E 35-empty"]);
+    assert_eq!(missing_without("1009"), ["10 35-nine", "10 35-of-nine-before-29"]);
+    let of_eight = missing_without("0F08");
+    for row in ["0F 35-in-use-8", "0F use-moved-by-7", "0F use-moved-past-end-by-7"] {
+        assert!(of_eight.contains(&row.to_string()), "{of_eight:?}");
+    }
+}
+
 #[test]
 fn the_same_seed_gives_the_same_lines() {
     assert!(conformance_lines(3) == conformance_lines(3));

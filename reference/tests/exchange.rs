@@ -1,13 +1,14 @@
-//! The exchange of demand 3 on many seeds: calls in between change nothing, the reply is accepted,
-//! and the offset keeps its bound.
+//! The exchange of demand 3 on many seeds, of a client and of a record of a list: calls in between
+//! change nothing, the reply is accepted, and the offset keeps its bound.
 
 use reference::arrival::{Told, arrival};
-use reference::client::{Client, FRESH, ask, give_up};
+use reference::associations::Associations;
+use reference::client::{FRESH, ask, give_up};
 use reference::generate::faults::{Fault, add_fault};
 use reference::generate::packets::octets_of;
 use reference::generate::replies::good_reply;
 use reference::random::Random;
-use reference::refusal::Refusal::OriginateMismatch;
+use reference::refusal::Refusal::{self, OriginateMismatch};
 use reference::server::{Settings, reply};
 
 /// No two clocks are this far apart.
@@ -55,15 +56,21 @@ fn settings(r: &mut Random) -> Settings {
     }
 }
 
-/// A call that the waiting client refuses.
-fn refused_call(r: &mut Random, waiting: &Client) {
+/// A call for a waiting record that is refused, of the record alone and of the list.
+fn refused_call(r: &mut Random, list: &Associations, number: usize) {
+    let waiting = &list.records[number];
     match r.below(3) {
         0 => {
-            let mut buffer = [7; 60];
-            assert!(ask(waiting, &mut buffer, 4, r.number(), r.number()).is_err());
+            let (mut buffer, clock, uptime) = ([7; 60], r.number(), r.number());
+            assert!(ask(waiting, &mut buffer, 4, clock, uptime).is_err());
+            assert!(list.ask(number, &mut buffer, 4, clock, uptime).is_err());
             assert_eq!(buffer, [7; 60]);
         }
-        1 => assert!(give_up(waiting, r.below(waiting.uptime + 16)).is_err()),
+        1 => {
+            let uptime = r.below(waiting.uptime + 16);
+            assert!(give_up(waiting, uptime).is_err());
+            assert!(list.give_up(number, uptime).is_err());
+        }
         _ => {
             let t1 = waiting.transmit;
             let mut other = good_reply(r, t1, waiting.version);
@@ -74,6 +81,7 @@ fn refused_call(r: &mut Random, waiting: &Client) {
             let packet = octets_of(&other.fields);
             let arrived = arrival(waiting, &packet, other.t4, r.one_in(2));
             assert_eq!(arrived, Err(OriginateMismatch));
+            assert_eq!(list.arrival(number, &packet, other.t4), Err(OriginateMismatch));
         }
     }
 }
@@ -85,16 +93,76 @@ fn keeps_the_bound(r: &mut Random, exchange: &Exchange) {
     let waiting = ask(&FRESH, &mut request, version, t1, r.below(1 << 40)).unwrap();
     let mut answer = [0; 48];
     reply(&settings(r), t2, t3, &request, &mut answer).unwrap();
+    let alone = Associations { records: vec![waiting], in_use: 0 };
     for _ in 0..r.below(6) {
-        refused_call(r, &waiting);
+        refused_call(r, &alone, 0);
     }
-    match arrival(&waiting, &answer, t4, r.one_in(2)).unwrap().told {
+    check_bound(exchange, arrival(&waiting, &answer, t4, r.one_in(2)).unwrap().told);
+}
+
+fn check_bound(exchange: &Exchange, told: Told) {
+    match told {
         Told::Accepted(m) => {
             let twice = 2 * i128::from(m.offset) + i128::from(m.half);
             assert!((twice - 2 * exchange.difference).abs() <= i128::from(m.delay));
         }
         kiss => panic!("{kiss:?}"),
     }
+}
+
+/// Any call for a record, which may change it; a packet answers the record's request, and may be a
+/// kiss.
+fn any_call(r: &mut Random, list: &Associations, number: usize) -> Result<Associations, Refusal> {
+    let client = list.records[number];
+    let uptime = client.uptime + r.below(1 << 15);
+    match r.below(4) {
+        0 => list.ask(number, &mut [0; 48], 4, r.number(), uptime),
+        1 => list.give_up(number, uptime),
+        _ => {
+            let mut reply = good_reply(r, client.transmit, client.version);
+            if r.one_in(2) {
+                add_fault(r, Fault::Kiss, client.transmit, &mut reply);
+            }
+            let packet = octets_of(&reply.fields);
+            list.arrival(number, &packet, reply.t4).map(|arrived| arrived.next)
+        }
+    }
+}
+
+/// A list of fresh records after calls for any of them.
+fn any_list(r: &mut Random) -> Associations {
+    let count = 1 + r.below(8) as usize;
+    let mut list = Associations { records: vec![FRESH; count], in_use: 0 };
+    for _ in 0..r.below(40) {
+        let number = r.below(count as u64) as usize;
+        list = any_call(r, &list, number).unwrap_or(list);
+    }
+    list
+}
+
+/// Calls for other records and refused ones for this, until its reply arrives. None where the ask
+/// is refused.
+fn keeps_the_bound_in_a_list(r: &mut Random, exchange: &Exchange) -> Option<()> {
+    let [t1, t2, t3, t4] = exchange.t;
+    let before = any_list(r);
+    let number = r.below(before.records.len() as u64) as usize;
+    let mut request = [0xEE; 48];
+    let mut list = before.ask(number, &mut request, 4, t1, 1 << 40).ok()?;
+    let waiting = list.records[number];
+    let mut answer = [0; 48];
+    reply(&settings(r), t2, t3, &request, &mut answer).unwrap();
+    for _ in 0..r.below(12) {
+        let other = r.below(list.records.len() as u64) as usize;
+        if other != number {
+            list = any_call(r, &list, other).unwrap_or(list);
+        }
+        refused_call(r, &list, number);
+        assert_eq!(list.records[number], waiting);
+    }
+    let arrived = list.arrival(number, &answer, t4).unwrap();
+    check_bound(exchange, arrived.told);
+    assert_eq!(arrived.next.in_use, list.in_use);
+    Some(())
 }
 
 #[test]
@@ -106,4 +174,17 @@ fn exchanges_keep_the_bound() {
             keeps_the_bound(&mut r, &exchange);
         }
     }
+}
+
+#[test]
+fn exchanges_of_a_record_of_a_list_keep_the_bound() {
+    let mut r = Random::new(12);
+    let mut exchanged = 0;
+    for _ in 0..20_000 {
+        let exchange = exchange(&mut r);
+        if !exchange.t.contains(&0) {
+            exchanged += keeps_the_bound_in_a_list(&mut r, &exchange).map_or(0, |()| 1);
+        }
+    }
+    assert!(exchanged > 5000, "{exchanged}");
 }

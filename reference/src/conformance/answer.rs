@@ -1,8 +1,10 @@
 //! The answers to conformance lines.
 
 use super::call::{Call, LONGEST, put_numbers};
+use super::list_call::{ListCall, RecordCall};
 use super::records::{put_client, put_date, put_fields};
 use crate::arrival::{Arrived, Told, arrival};
+use crate::associations::Associations;
 use crate::client::{Client, FRESH, ask, give_up};
 use crate::refusal::{Refusal, number_of};
 use crate::timestamp::{self, Measured};
@@ -29,19 +31,20 @@ pub fn put_answer(call: &Call, out: &mut Vec<u8>) {
         Call::Precision { tick } => {
             put_result(precision::precision(tick), out, |p, out| out.push(p as u8));
         }
-        Call::Ask { client, n, version, clock, uptime } => {
-            put_asked(client, n, out, |buffer| ask(&client, buffer, version, clock, uptime));
+        Call::Ask { ref client, n, version, clock, uptime } => {
+            put_asked(client, n, out, |buffer| ask(client, buffer, version, clock, uptime));
         }
-        Call::Arrival { client, t4, alternate, packet } => {
-            put_arrival(client, arrival(&client, packet, t4, alternate), out);
+        Call::Arrival { ref client, t4, alternate, packet } => {
+            put_arrived(client, arrival(client, packet, t4, alternate), out);
         }
-        Call::GiveUp { client, uptime } => put_next(client, give_up(&client, uptime), out),
+        Call::GiveUp { ref client, uptime } => put_next(client, give_up(client, uptime), out),
         Call::Reply { ref settings, t2, t3, n, request } => {
             put_written(n, out, |buffer| server::reply(settings, t2, t3, request, buffer));
         }
         Call::Entry { debt, offset, half } => put_entry(debt, offset, half, out),
         Call::Tick { debt, limit } => put_tick(debt, limit, out),
-        Call::Fresh => put_next(FRESH, Ok(FRESH), out),
+        Call::OfList(ref call) => put_list_answer(call, out),
+        Call::Fresh => put_next(&FRESH, Ok(FRESH), out),
         Call::Constants => put_constants(out),
         Call::Halve { sum } => put_halves(sum, out),
     }
@@ -90,28 +93,47 @@ fn put_written(n: u8, out: &mut Vec<u8>, call: impl FnOnce(&mut [u8]) -> Result<
     out.extend_from_slice(buffer);
 }
 
-/// The same, with the next record between the two.
-fn put_asked(
-    client: Client,
+/// What a call hands back to be kept, as it stands in an answer.
+trait Kept {
+    fn put(&self, out: &mut Vec<u8>);
+}
+
+impl Kept for Client {
+    fn put(&self, out: &mut Vec<u8>) {
+        put_client(self, out);
+    }
+}
+
+impl Kept for Associations {
+    fn put(&self, out: &mut Vec<u8>) {
+        out.push(self.in_use as u8);
+        self.records.iter().for_each(|record| put_client(record, out));
+    }
+}
+
+/// The number, what comes next, and the buffer.
+fn put_asked<T: Kept>(
+    before: &T,
     n: u8,
     out: &mut Vec<u8>,
-    call: impl FnOnce(&mut [u8]) -> Result<Client, Refusal>,
+    call: impl FnOnce(&mut [u8]) -> Result<T, Refusal>,
 ) {
     let mut space = FILLED;
     let buffer = lent(&mut space, n);
-    put_next(client, call(buffer), out);
+    put_next(before, call(buffer), out);
     out.extend_from_slice(buffer);
 }
 
-/// The number and the next record, which is the one handed in where the call is refused.
-fn put_next(client: Client, result: Result<Client, Refusal>, out: &mut Vec<u8>) {
+/// The number and what comes next, which is what was handed in where the call is refused.
+fn put_next<T: Kept>(before: &T, result: Result<T, Refusal>, out: &mut Vec<u8>) {
     out.push(number_of(&result));
-    put_client(&result.unwrap_or(client), out);
+    result.as_ref().unwrap_or(before).put(out);
 }
 
-fn put_arrival(client: Client, result: Result<Arrived, Refusal>, out: &mut Vec<u8>) {
+/// An arrival's kind and number, what it tells, and what comes next.
+fn put_arrived<T: Kept>(before: &T, result: Result<Arrived<T>, Refusal>, out: &mut Vec<u8>) {
     let nothing = (Measured::default(), [0; 4], 0);
-    let (kind, (measured, code, row)) = match result.map(|arrived| arrived.told) {
+    let (kind, (measured, code, row)) = match result.as_ref().map(|arrived| arrived.told) {
         Err(_) => (0, nothing),
         Ok(Told::Accepted(measured)) => (1, (measured, [0; 4], 0)),
         Ok(Told::Kiss { code, row }) => (2, (Measured::default(), code, row)),
@@ -120,7 +142,20 @@ fn put_arrival(client: Client, result: Result<Arrived, Refusal>, out: &mut Vec<u
     measured.put(out);
     out.extend(code);
     out.push(row);
-    put_client(&result.map_or(client, |arrived| arrived.client), out);
+    result.as_ref().map_or(before, |arrived| &arrived.next).put(out);
+}
+
+fn put_list_answer(call: &ListCall, out: &mut Vec<u8>) {
+    let (list, number) = (&call.list, call.number);
+    match call.call {
+        RecordCall::Ask { n, version, clock, uptime } => {
+            put_asked(list, n, out, |buffer| list.ask(number, buffer, version, clock, uptime));
+        }
+        RecordCall::Arrival { t4, packet } => {
+            put_arrived(list, list.arrival(number, packet, t4), out);
+        }
+        RecordCall::GiveUp { uptime } => put_next(list, list.give_up(number, uptime), out),
+    }
 }
 
 fn put_entry(debt: i64, offset: i64, half: u8, out: &mut Vec<u8>) {

@@ -1,5 +1,6 @@
 //! A conformance line as a call with its arguments: read from the line's octets, and written.
 
+use super::list_call::{LARGEST_COUNT, ListCall, list_length, record_at};
 use super::records::*;
 use crate::calendar::Date;
 use crate::client::Client;
@@ -9,13 +10,13 @@ use crate::server::Settings;
 
 /// Octets of the longest packet and of the longest buffer.
 pub const LONGEST: u8 = 80;
-/// Octets of the longest line, a reply to the longest packet.
-pub const LONGEST_LINE: usize = 1 + 32 + LONGEST as usize;
+/// Octets of the longest line, an arrival of the longest packet for a record of the longest list.
+pub const LONGEST_LINE: usize = record_at(LARGEST_COUNT as usize) + 8 + LONGEST as usize;
 
 /// Places in a line of octets that not every value fits: of a client's record, of the alternate in
 /// an arrival, of the buffer's length n, and of the server's settings.
 pub const PHASE_AT: usize = 1;
-pub const ASKED_AT: usize = 11;
+pub const ASKED_AT: usize = PHASE_AT + ASKED_AFTER_PHASE;
 pub const ALTERNATE_AT: usize = 29;
 pub const N_OF_WRITE_AT: usize = 1;
 pub const N_OF_ASK_AT: usize = 21;
@@ -23,7 +24,7 @@ pub const N_OF_REPLY_AT: usize = 32;
 pub const SYNCHRONISED_AT: usize = 1;
 
 /// A call with its arguments. `n` is the length of the buffer that is lent to it.
-#[derive(Clone, Copy, PartialEq, Eq, Debug)]
+#[derive(Clone, PartialEq, Eq, Debug)]
 pub enum Call<'a> {
     Difference { x: u64, y: u64 },
     Measure { t1: u64, t2: u64, t3: u64, t4: u64 },
@@ -38,6 +39,7 @@ pub enum Call<'a> {
     Reply { settings: Settings, t2: u64, t3: u64, n: u8, request: &'a [u8] },
     Entry { debt: i64, offset: i64, half: u8 },
     Tick { debt: i64, limit: u64 },
+    OfList(ListCall<'a>),
     Fresh,
     Constants,
     Halve { sum: i64 },
@@ -52,6 +54,7 @@ pub enum Malformed {
     Phase,
     Flag,
     BufferLength,
+    Count,
 }
 
 impl From<Short> for Malformed {
@@ -60,10 +63,12 @@ impl From<Short> for Malformed {
     }
 }
 
-/// Shortest and longest rest of a line after its operation.
-pub fn lengths(operation: u8) -> Option<(usize, usize)> {
+/// Shortest and longest rest of a line after its operation, which for a list goes by its count.
+pub fn lengths(operation: u8, rest: &[u8]) -> Result<(usize, usize), Malformed> {
     let longest = usize::from(LONGEST);
-    Some(match operation {
+    let after_list =
+        |least: usize, most: usize| list_length(rest).map(|list| (list + least, list + most));
+    Ok(match operation {
         0x01 => (16, 16),
         0x02 => (32, 32),
         0x03 => (0, longest),
@@ -77,13 +82,16 @@ pub fn lengths(operation: u8) -> Option<(usize, usize)> {
         0x0B => (32, 32 + longest),
         0x0C => (17, 17),
         0x0D => (16, 16),
+        0x0E => after_list(18, 18)?,
+        0x0F => after_list(8, 8 + longest)?,
+        0x10 => after_list(8, 8)?,
         0xF0 | 0xF1 => (0, 0),
         0xF2 => (8, 8),
-        _ => return None,
+        _ => return Err(Malformed::Operation),
     })
 }
 
-fn read_n(octets: &mut Reader) -> Result<u8, Malformed> {
+pub fn read_n(octets: &mut Reader) -> Result<u8, Malformed> {
     match octets.u8()? {
         n @ 0..=LONGEST => Ok(n),
         _ => Err(Malformed::BufferLength),
@@ -138,6 +146,7 @@ fn read_call<'a>(operation: u8, octets: &mut Reader<'a>) -> Result<Call<'a>, Mal
         0x0B => read_reply(octets)?,
         0x0C => Call::Entry { debt: octets.i64()?, offset: octets.i64()?, half: octets.u8()? },
         0x0D => Call::Tick { debt: octets.i64()?, limit: octets.u64()? },
+        0x0E..=0x10 => Call::OfList(ListCall::read(operation, octets)?),
         0xF0 => Call::Fresh,
         0xF1 => Call::Constants,
         0xF2 => Call::Halve { sum: octets.i64()? },
@@ -148,7 +157,7 @@ fn read_call<'a>(operation: u8, octets: &mut Reader<'a>) -> Result<Call<'a>, Mal
 impl<'a> Call<'a> {
     pub fn parse(line: &'a [u8]) -> Result<Call<'a>, Malformed> {
         let (&operation, rest) = line.split_first().ok_or(Malformed::Empty)?;
-        let (shortest, longest) = lengths(operation).ok_or(Malformed::Operation)?;
+        let (shortest, longest) = lengths(operation, rest)?;
         if !(shortest..=longest).contains(&rest.len()) {
             return Err(Malformed::Length);
         }
@@ -170,6 +179,7 @@ impl<'a> Call<'a> {
             Call::Reply { .. } => 0x0B,
             Call::Entry { .. } => 0x0C,
             Call::Tick { .. } => 0x0D,
+            Call::OfList(call) => call.operation(),
             Call::Fresh => 0xF0,
             Call::Constants => 0xF1,
             Call::Halve { .. } => 0xF2,
@@ -210,6 +220,7 @@ impl<'a> Call<'a> {
                 line.push(half);
             }
             Call::Tick { debt, limit } => put_numbers([debt as u64, limit], line),
+            Call::OfList(ref call) => call.put(line),
             Call::Fresh | Call::Constants => {}
             Call::Halve { sum } => put_numbers([sum as u64], line),
         }

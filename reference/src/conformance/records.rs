@@ -8,6 +8,10 @@ use crate::octets::{Reader, Short};
 use crate::packet::Fields;
 use crate::server::Settings;
 
+/// Octets of a client record, and those from its phase to its flag.
+pub const RECORD: usize = 20;
+pub const ASKED_AFTER_PHASE: usize = 10;
+
 /// A flag, which is 00 or 01.
 pub fn read_flag(octets: &mut Reader) -> Result<bool, Malformed> {
     match octets.u8()? {

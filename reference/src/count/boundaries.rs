@@ -4,6 +4,7 @@ mod arrival;
 mod calendar;
 mod client;
 mod ledger;
+mod lists;
 mod plain;
 mod server;
 
@@ -34,6 +35,11 @@ impl Marks {
     /// Every line of an operation sees the same names in the same order.
     fn see(&mut self, name: &str, held: bool) {
         self.mark(|| name.to_string(), held);
+    }
+
+    /// The same with a word before the name.
+    fn see_with(&mut self, word: &str, name: &str, held: bool) {
+        self.mark(|| format!("{word}{name}"), held);
     }
 
     /// The same for each value, which stands at the end of the name.
@@ -80,12 +86,13 @@ impl Boundaries {
                 client::ask(m, client, outcome, (n, version, clock, uptime));
             }
             Call::Arrival { ref client, t4, alternate, packet } => {
+                let next = client::handed_back(answer);
                 arrival::alternates(m, alternate, outcome);
-                arrival::kisses(m, client, alternate, answer, outcome);
+                arrival::kisses(m, "", client, next, outcome.is_kiss().then_some(alternate));
                 arrival::arrival(m, client, t4, packet, answer, outcome);
             }
             Call::GiveUp { ref client, uptime } => {
-                client::give_up(m, client, uptime, answer, outcome);
+                client::give_up(m, client, uptime, client::handed_back(answer), outcome);
             }
             Call::Reply { ref settings, t2, t3, n, request } => {
                 server::reply(m, settings, [t2, t3], n, request, outcome);
@@ -94,6 +101,7 @@ impl Boundaries {
                 ledger::entry(m, debt, (offset, half), outcome, run);
             }
             Call::Tick { debt, limit } => ledger::tick(m, debt, limit, answer, outcome, run),
+            Call::OfList(ref call) => lists::list_call(m, call, answer, outcome),
             Call::Halve { sum } => plain::halve(m, sum),
             Call::Difference { .. } | Call::Fresh | Call::Constants => {}
         }

@@ -3,12 +3,13 @@
 use super::outcome::Outcome;
 use super::{Counter, Pair, Row};
 use crate::conformance::call::{ALTERNATE_AT, ASKED_AT, Call, Malformed, lengths};
+use crate::conformance::list_call::{COUNT_AT, LARGEST_COUNT};
 use crate::hex_lines::value;
 use crate::kiss::CODES;
 use crate::refusal::Refusal::{self, *};
 
-/// Each number that each call can give, beside 00.
-const REFUSALS: [(u8, &[Refusal]); 16] = [
+/// Each number that each call can give, beside 00. Calls for a record of a list have one more.
+const REFUSALS: [(u8, &[Refusal]); 19] = [
     (0x01, &[]),
     (0x02, &MEASURE_REFUSALS),
     (0x03, &[PacketLengthWrong]),
@@ -17,11 +18,14 @@ const REFUSALS: [(u8, &[Refusal]); 16] = [
     (0x06, &[NoSuchDate, OutsideWindow, TimestampZero]),
     (0x07, &[TickOutOfRange]),
     (0x08, &ASK_REFUSALS),
-    (0x09, &ARRIVAL_REFUSALS),
-    (0x0A, &[RecordNotLegal, NotWaiting, GaveUpTooSoon]),
+    (ARRIVAL, &ARRIVAL_REFUSALS),
+    (0x0A, &GIVE_UP_REFUSALS),
     (0x0B, &REPLY_REFUSALS),
     (0x0C, &[RecordNotLegal, EntryTooLarge, DebtTooLarge]),
     (0x0D, &[RecordNotLegal, LimitOutOfRange]),
+    (0x0E, &ASK_REFUSALS),
+    (LIST_ARRIVAL, &ARRIVAL_REFUSALS),
+    (0x10, &GIVE_UP_REFUSALS),
     (0xF0, &[]),
     (0xF1, &[]),
     (0xF2, &[]),
@@ -65,6 +69,8 @@ const ARRIVAL_REFUSALS: [Refusal; 17] = [
     DifferenceOutOfRange,
 ];
 
+const GIVE_UP_REFUSALS: [Refusal; 3] = [RecordNotLegal, NotWaiting, GaveUpTooSoon];
+
 const REPLY_REFUSALS: [Refusal; 7] = [
     BufferTooShort,
     PacketLengthWrong,
@@ -75,9 +81,10 @@ const REPLY_REFUSALS: [Refusal; 7] = [
     AnsweredBeforeReceived,
 ];
 
-/// All malformed lines and their kinds; by themselves also the wrong lengths of the ledger's lines,
-/// and the wrong flag of an alternate.
-const MALFORMED: [&str; 17] = [
+/// All malformed lines and their kinds; by themselves also the wrong lengths of the ledger's and
+/// the list's lines, the wrong flag of an alternate, what is wrong in a list's records, and a list
+/// of ten.
+const MALFORMED: [&str; 28] = [
     "",
     "-empty",
     "-odd",
@@ -91,17 +98,38 @@ const MALFORMED: [&str; 17] = [
     "-length-0C-long",
     "-length-0D-short",
     "-length-0D-long",
+    "-length-0E-short",
+    "-length-0E-long",
+    "-length-0F-short",
+    "-length-0F-long",
+    "-length-10-short",
+    "-length-10-long",
     "-flag",
     "-flag-alternate",
+    "-flag-list",
     "-phase",
+    "-phase-list",
     "-n",
+    "-n-list",
+    "-count",
+    "-count-10",
 ];
 
 const ARRIVAL: u8 = 0x09;
+const LIST_ARRIVAL: u8 = 0x0F;
+
+fn is_arrival(operation: u8) -> bool {
+    matches!(operation, ARRIVAL | LIST_ARRIVAL)
+}
+
+/// Whether a call is for a record of a list.
+fn is_of_list(operation: u8) -> bool {
+    matches!(operation, 0x0E..=0x10)
+}
 
 /// The outcomes of a call that is not refused.
 fn passed(operation: u8) -> Vec<Outcome> {
-    if operation == ARRIVAL {
+    if is_arrival(operation) {
         let kisses = (0..=CODES.len()).map(|row| Outcome::Kiss(row as u8));
         kisses.chain([Outcome::Accepted]).collect()
     } else {
@@ -110,7 +138,8 @@ fn passed(operation: u8) -> Vec<Outcome> {
 }
 
 fn outcomes(operation: u8, refusals: &[Refusal]) -> impl Iterator<Item = Outcome> {
-    let refused = refusals.iter().map(|&refusal| Outcome::Refused(refusal));
+    let of_list = is_of_list(operation).then_some(NotInList);
+    let refused = of_list.into_iter().chain(refusals.iter().copied()).map(Outcome::Refused);
     refused.chain(passed(operation))
 }
 
@@ -126,17 +155,12 @@ fn wanted() -> impl Iterator<Item = Row> {
 }
 
 fn outcome(call: &Call, answer: &[u8]) -> Option<Outcome> {
-    match (call, answer) {
-        (Call::Arrival { .. }, [0, number, ..]) => {
-            Refusal::of_number(*number).map(Outcome::Refused)
-        }
-        (Call::Arrival { .. }, [1, 0, ..]) => Some(Outcome::Accepted),
+    match (is_arrival(call.operation()), answer) {
+        (true, [0, number, ..]) => Refusal::of_number(*number).map(Outcome::Refused),
+        (true, [1, 0, ..]) => Some(Outcome::Accepted),
         // The row stands after offset, half, delay and code.
-        (Call::Arrival { .. }, [2, 0, rest @ ..]) => {
-            rest.get(8 + 1 + 8 + 4).map(|&row| Outcome::Kiss(row))
-        }
-        (Call::Arrival { .. }, _) => None,
-        (_, [number, ..]) => Outcome::of_number(*number),
+        (true, [2, 0, rest @ ..]) => rest.get(8 + 1 + 8 + 4).map(|&row| Outcome::Kiss(row)),
+        (false, [number, ..]) => Outcome::of_number(*number),
         _ => None,
     }
 }
@@ -164,27 +188,48 @@ fn kind_of(malformed: Malformed) -> &'static str {
         Malformed::Phase => "-phase",
         Malformed::Flag => "-flag",
         Malformed::BufferLength => "-n",
+        Malformed::Count => "-count",
     }
 }
 
-/// Which wrong length of the ledger a line has, if it is of the ledger.
-fn ledger_length(line: &[u8]) -> Option<&'static str> {
+/// Which wrong length a line of the ledger or of a list has.
+fn kind_of_length(line: &[u8]) -> Option<&'static str> {
     let (&operation, rest) = line.split_first()?;
-    let (_, longest) = lengths(operation)?;
-    match (operation, rest.len() > longest) {
+    // A list without its count is too short.
+    let long = lengths(operation, rest).is_ok_and(|(_, longest)| rest.len() > longest);
+    match (operation, long) {
         (0x0C, false) => Some("-length-0C-short"),
         (0x0C, true) => Some("-length-0C-long"),
         (0x0D, false) => Some("-length-0D-short"),
         (0x0D, true) => Some("-length-0D-long"),
+        (0x0E, false) => Some("-length-0E-short"),
+        (0x0E, true) => Some("-length-0E-long"),
+        (0x0F, false) => Some("-length-0F-short"),
+        (0x0F, true) => Some("-length-0F-long"),
+        (0x10, false) => Some("-length-10-short"),
+        (0x10, true) => Some("-length-10-long"),
         _ => None,
     }
 }
 
 /// Whether the alternate's flag is wrong, and the record's flag is not.
-fn alternate_flag(line: &[u8]) -> Option<&'static str> {
-    let arrival = line.first() == Some(&ARRIVAL);
-    let wrong = *line.get(ASKED_AT)? < 2 && *line.get(ALTERNATE_AT)? > 1;
-    (arrival && wrong).then_some("-flag-alternate")
+fn has_alternate_wrong(line: &[u8]) -> bool {
+    let octet = |at: usize| line.get(at).copied().unwrap_or(0);
+    octet(0) == ARRIVAL && octet(ASKED_AT) < 2 && octet(ALTERNATE_AT) > 1
+}
+
+/// The kind that a malformed line is of besides, if any.
+fn further_kind(malformed: Malformed, line: &[u8]) -> Option<&'static str> {
+    let of_list = line.first().is_some_and(|&operation| is_of_list(operation));
+    match malformed {
+        Malformed::Length => kind_of_length(line),
+        Malformed::Flag if has_alternate_wrong(line) => Some("-flag-alternate"),
+        Malformed::Flag if of_list => Some("-flag-list"),
+        Malformed::Phase if of_list => Some("-phase-list"),
+        Malformed::BufferLength if of_list => Some("-n-list"),
+        Malformed::Count if line.get(COUNT_AT) == Some(&(LARGEST_COUNT + 1)) => Some("-count-10"),
+        _ => None,
+    }
 }
 
 fn take_malformed(counter: &mut Counter, pair: &Pair) -> Option<()> {
@@ -195,12 +240,7 @@ fn take_malformed(counter: &mut Counter, pair: &Pair) -> Option<()> {
         Some(line) => {
             let malformed = Call::parse(line).err()?;
             add(kind_of(malformed));
-            let more = match malformed {
-                Malformed::Length => ledger_length(line),
-                Malformed::Flag => alternate_flag(line),
-                _ => None,
-            };
-            more.into_iter().for_each(add);
+            further_kind(malformed, line).into_iter().for_each(add);
         }
     }
     Some(())

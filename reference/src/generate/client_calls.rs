@@ -1,4 +1,5 @@
-//! Calls of the client.
+//! Calls of the client. What a call is given beside the record is drawn by functions of their own,
+//! which serve the calls for a record of a list too.
 
 use super::faults::{Fault, add_fault};
 use super::packets::{alter, make_length_wrong, octets_of, put_authenticator};
@@ -6,7 +7,7 @@ use super::plain_calls::buffer_length;
 use super::records::record;
 use super::replies::good_reply;
 use super::timestamps::{timestamp, uptime};
-use crate::client::Phase;
+use crate::client::{Client, Phase};
 use crate::conformance::call::{Call, LONGEST};
 use crate::random::Random;
 use crate::refusal::Refusal::*;
@@ -36,12 +37,17 @@ fn uptime_of_ask(r: &mut Random, last: u64, exponent: u8) -> u64 {
     }
 }
 
-pub fn ask(r: &mut Random, line: &mut Vec<u8>) {
-    let client = record(r, Phase::Idle);
+/// An ask's n, version, clock and uptime.
+pub fn asked(r: &mut Random, client: &Client) -> (u8, u8, u64, u64) {
     let n = if r.one_in(2) { 48 } else { buffer_length(r) };
     let version = version(r);
     let clock = if r.one_in(16) { 0 } else { timestamp(r) };
-    let uptime = uptime_of_ask(r, client.uptime, client.exponent);
+    (n, version, clock, uptime_of_ask(r, client.uptime, client.exponent))
+}
+
+pub fn ask(r: &mut Random, line: &mut Vec<u8>) {
+    let client = record(r, Phase::Idle);
+    let (n, version, clock, uptime) = asked(r, &client);
     Call::Ask { client, n, version, clock, uptime }.put(line);
 }
 
@@ -70,8 +76,8 @@ const FAULTS: [Fault; 21] = [
     Fault::By(DifferenceOutOfRange),
 ];
 
-pub fn arrival(r: &mut Random, line: &mut Vec<u8>) {
-    let client = record(r, Phase::Waiting);
+/// An arrival's T4 and packet.
+pub fn arrived(r: &mut Random, client: &Client) -> (u64, Vec<u8>) {
     let mut reply = good_reply(r, client.transmit, client.version);
     let mut length_wrong = false;
     for _ in 0..r.pick([0, 0, 1, 1, 1, 1, 1, 2, 2, 3]) {
@@ -87,13 +93,19 @@ pub fn arrival(r: &mut Random, line: &mut Vec<u8>) {
     if length_wrong {
         make_length_wrong(r, LONGEST.into(), &mut packet);
     }
-    let alternate = r.one_in(2);
-    Call::Arrival { client, t4: reply.t4, alternate, packet: &packet }.put(line);
+    (reply.t4, packet)
 }
 
-pub fn give_up(r: &mut Random, line: &mut Vec<u8>) {
+pub fn arrival(r: &mut Random, line: &mut Vec<u8>) {
     let client = record(r, Phase::Waiting);
-    let uptime = match r.below(8) {
+    let (t4, packet) = arrived(r, &client);
+    let alternate = r.one_in(2);
+    Call::Arrival { client, t4, alternate, packet: &packet }.put(line);
+}
+
+/// A give-up's uptime.
+pub fn uptime_of_give_up(r: &mut Random, client: &Client) -> u64 {
+    match r.below(8) {
         0 => client.uptime.wrapping_add(15),
         1 | 2 => client.uptime.wrapping_add(16),
         3 => client.uptime.wrapping_add(17),
@@ -101,6 +113,11 @@ pub fn give_up(r: &mut Random, line: &mut Vec<u8>) {
         5 => client.uptime.wrapping_sub(r.below(3)),
         6 => client.uptime.saturating_add(r.below(1 << 40)),
         _ => uptime(r),
-    };
+    }
+}
+
+pub fn give_up(r: &mut Random, line: &mut Vec<u8>) {
+    let client = record(r, Phase::Waiting);
+    let uptime = uptime_of_give_up(r, &client);
     Call::GiveUp { client, uptime }.put(line);
 }

@@ -1,7 +1,7 @@
 //! Conformance lines: fixed ones first, then random ones, mostly calls and mostly near a limit.
 
 use super::text::put_drawn;
-use super::{calendar_calls, client_calls, ledger_calls, plain_calls, server_calls};
+use super::{calendar_calls, client_calls, ledger_calls, list_calls, plain_calls, server_calls};
 use super::{fixed, malformed, write_lines};
 use crate::conformance::call::Call;
 use crate::random::Random;
@@ -12,7 +12,7 @@ const RARE: u64 = 50;
 
 /// Appends the octets of one call.
 pub fn put_call(r: &mut Random, line: &mut Vec<u8>) {
-    match r.below(104) {
+    match r.below(132) {
         0..=2 => plain_calls::difference(r, line),
         3..=12 => plain_calls::measure(r, line),
         13..=16 => plain_calls::read_fields(r, line),
@@ -24,10 +24,14 @@ pub fn put_call(r: &mut Random, line: &mut Vec<u8>) {
         51..=80 => client_calls::arrival(r, line),
         81..=87 => client_calls::give_up(r, line),
         88..=97 => server_calls::reply(r, line),
-        98 => r.pick([Call::Fresh, Call::Constants]).put(line),
+        98 if r.one_in(2) => Call::Fresh.put(line),
+        98 => Call::Constants.put(line),
         99 => plain_calls::halve(r, line),
         100 | 101 => ledger_calls::entry(r, line),
-        _ => ledger_calls::tick(r, line),
+        102 | 103 => ledger_calls::tick(r, line),
+        104..=111 => list_calls::ask(r, line),
+        112..=127 => list_calls::arrival(r, line),
+        _ => list_calls::give_up(r, line),
     }
 }
 

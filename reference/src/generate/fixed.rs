@@ -2,12 +2,16 @@
 //! length, each kiss row, both sides of each limit, and each kind of malformed line.
 
 mod calendar;
+mod clients;
 mod exchanges;
 mod ledger;
+mod lists;
 mod malformed;
 mod timestamps;
 
+use crate::associations::Associations;
 use crate::conformance::call::Call;
+use crate::conformance::list_call::{ListCall, RecordCall};
 use crate::hex_lines::put_hex;
 
 /// One second, which the figures of the rules take as T1.
@@ -25,6 +29,10 @@ impl Lines {
 
     fn calls<'a>(&mut self, calls: impl IntoIterator<Item = Call<'a>>) {
         calls.into_iter().for_each(|call| self.call(call));
+    }
+
+    fn list_call(&mut self, list: Associations, number: usize, call: RecordCall) {
+        self.call(Call::OfList(ListCall { list, number, call }));
     }
 
     fn octets(&mut self, octets: &[u8]) {
@@ -49,6 +57,8 @@ pub fn lines() -> Vec<Vec<u8>> {
     calendar::put_lines(&mut lines);
     timestamps::put_ticks(&mut lines);
     exchanges::put_lines(&mut lines);
+    clients::put_lines(&mut lines);
+    lists::put_lines(&mut lines);
     ledger::put_lines(&mut lines);
     malformed::put_lines(&mut lines);
     lines.0
@@ -59,6 +69,6 @@ mod tests {
     #[test]
     fn there_are_enough() {
         let count = super::lines().len();
-        assert!((1300..1600).contains(&count), "{count}");
+        assert!((10_000..12_000).contains(&count), "{count}");
     }
 }

@@ -2,17 +2,20 @@
 
 use super::client_calls::{arrival, ask, give_up};
 use super::conformance::put_call;
+use super::list_calls;
 use super::packets::put_any;
 use super::plain_calls::write_fields;
 use super::server_calls::reply;
 use crate::conformance::call::*;
+use crate::conformance::list_call::{COUNT_AT, LARGEST_COUNT, record_at};
+use crate::conformance::records::ASKED_AFTER_PHASE;
 use crate::random::Random;
 
 /// An operation that is not listed.
 fn unlisted(r: &mut Random) -> u8 {
     loop {
         let operation = r.octet();
-        if lengths(operation).is_none() {
+        if lengths(operation, &[0]) == Err(Malformed::Operation) {
             return operation;
         }
     }
@@ -20,8 +23,10 @@ fn unlisted(r: &mut Random) -> u8 {
 
 /// Shortest and longest line of the operation that a line begins with.
 fn line_lengths(line: &[u8]) -> (usize, usize) {
-    let rest = line.first().and_then(|&operation| lengths(operation)).unwrap_or_default();
-    (1 + rest.0, 1 + rest.1)
+    let split = line.split_first();
+    let rest = split.and_then(|(&operation, rest)| lengths(operation, rest).ok());
+    let (shortest, longest) = rest.unwrap_or_default();
+    (1 + shortest, 1 + longest)
 }
 
 /// Whether the line's operation has one length, and octets after it.
@@ -57,8 +62,9 @@ fn lengthen(r: &mut Random, line: &mut Vec<u8>) {
 /// A line that ends before its packet begins.
 fn cut_before_packet(r: &mut Random, line: &mut Vec<u8>) {
     line.clear();
-    match r.below(2) {
+    match r.below(3) {
         0 => arrival(r, line),
+        1 => list_calls::arrival(r, line),
         _ => reply(r, line),
     }
     let (shortest, _) = line_lengths(line);
@@ -72,9 +78,42 @@ fn set_from(r: &mut Random, at: usize, least: u8, line: &mut [u8]) {
         0 | 1 => least,
         _ => least + r.below(256 - u64::from(least)) as u8,
     };
+    set(at, value, line);
+}
+
+fn set(at: usize, value: u8, line: &mut [u8]) {
     if let Some(octet) = line.get_mut(at) {
         *octet = value;
     }
+}
+
+/// Puts a call for a record of a list that is not empty, and gives the number of records.
+fn put_list_call(r: &mut Random, line: &mut Vec<u8>) -> usize {
+    loop {
+        line.clear();
+        match r.below(3) {
+            0 => list_calls::ask(r, line),
+            1 => list_calls::arrival(r, line),
+            _ => list_calls::give_up(r, line),
+        }
+        if let Some(&count @ 1..) = line.get(COUNT_AT) {
+            return count.into();
+        }
+    }
+}
+
+/// A list with more records than a line may have: by its count alone, or in truth.
+fn make_count_large(r: &mut Random, line: &mut Vec<u8>) {
+    let count = put_list_call(r, line);
+    let large = LARGEST_COUNT + 1;
+    if r.one_in(2) {
+        set_from(r, COUNT_AT, large, line);
+        return;
+    }
+    let first = line.get(record_at(0)..record_at(1)).unwrap_or_default();
+    let more = first.repeat(usize::from(large) - count);
+    line.splice(record_at(0)..record_at(0), more);
+    set(COUNT_AT, large, line);
 }
 
 /// A flag or a phase that there is not.
@@ -83,7 +122,7 @@ fn make_flag_wrong(r: &mut Random, line: &mut Vec<u8>) {
     const ASKED: (usize, u8) = (ASKED_AT, 2);
     const ALTERNATE: (usize, u8) = (ALTERNATE_AT, 2);
     line.clear();
-    let (at, least) = match r.below(4) {
+    let (at, least) = match r.below(5) {
         0 => {
             ask(r, line);
             r.pick([PHASE, ASKED])
@@ -96,6 +135,11 @@ fn make_flag_wrong(r: &mut Random, line: &mut Vec<u8>) {
             give_up(r, line);
             r.pick([PHASE, ASKED])
         }
+        3 => {
+            let count = put_list_call(r, line);
+            let at = record_at(r.below(count as u64) as usize);
+            r.pick([(at, 3), (at + ASKED_AFTER_PHASE, 2)])
+        }
         _ => {
             reply(r, line);
             (SYNCHRONISED_AT, 2)
@@ -107,7 +151,7 @@ fn make_flag_wrong(r: &mut Random, line: &mut Vec<u8>) {
 /// A buffer that is too long.
 fn make_buffer_long(r: &mut Random, line: &mut Vec<u8>) {
     line.clear();
-    let at = match r.below(3) {
+    let at = match r.below(4) {
         0 => {
             write_fields(r, line);
             N_OF_WRITE_AT
@@ -115,6 +159,10 @@ fn make_buffer_long(r: &mut Random, line: &mut Vec<u8>) {
         1 => {
             ask(r, line);
             N_OF_ASK_AT
+        }
+        2 => {
+            list_calls::ask(r, line);
+            record_at(line.get(COUNT_AT).map_or(0, |&count| count.into()))
         }
         _ => {
             reply(r, line);
@@ -126,7 +174,7 @@ fn make_buffer_long(r: &mut Random, line: &mut Vec<u8>) {
 
 /// Makes a call's octets malformed, or puts other ones in their place that are.
 pub fn make_malformed(r: &mut Random, line: &mut Vec<u8>) {
-    match r.below(8) {
+    match r.below(9) {
         0 => {
             let operation = unlisted(r);
             if let Some(first) = line.first_mut() {
@@ -137,6 +185,7 @@ pub fn make_malformed(r: &mut Random, line: &mut Vec<u8>) {
         2 => lengthen(r, line),
         3 => cut_before_packet(r, line),
         4 | 5 => make_flag_wrong(r, line),
+        6 => make_count_large(r, line),
         _ => make_buffer_long(r, line),
     }
 }

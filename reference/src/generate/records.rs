@@ -6,7 +6,7 @@ use crate::random::Random;
 
 const PHASES: [Phase; 3] = [Phase::Idle, Phase::Waiting, Phase::Stopped];
 
-fn legal_record(r: &mut Random, phase: Phase) -> Client {
+pub fn legal_record(r: &mut Random, phase: Phase) -> Client {
     let exponent = if r.one_in(4) { r.pick([6, 13, 14]) } else { 6 + r.octet_below(9) };
     let asked = Client { asked: true, uptime: uptime(r), exponent, ..FRESH };
     match phase {
@@ -39,7 +39,7 @@ fn never_asked(r: &mut Random, phase: Phase) -> Client {
 }
 
 /// A record that is illegal in one of the ways there are.
-fn illegal_record(r: &mut Random) -> Client {
+pub fn illegal_record(r: &mut Random) -> Client {
     let not_waiting = r.pick([Phase::Idle, Phase::Stopped]);
     match r.below(10) {
         0 | 1 => {

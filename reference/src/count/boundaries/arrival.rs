@@ -4,10 +4,8 @@ use super::Marks;
 use super::client::records;
 use super::plain::exchange;
 use crate::client::{Client, Phase};
-use crate::conformance::records::read_client;
 use crate::count::conformance::arrival_outcomes;
 use crate::count::outcome::Outcome;
-use crate::octets::Reader;
 use crate::packet::{self, Fields, LENGTH};
 use crate::refusal::Refusal::*;
 use crate::timestamp::{difference, measure};
@@ -28,7 +26,7 @@ pub fn arrival(
 ) {
     let accepted = outcome == Outcome::Accepted;
     let fields = fields_of(packet);
-    records(m, client, outcome);
+    records(m, "", client, outcome);
     lengths(m, packet.len(), outcome);
     m.see("7-before-8", outcome.by(PacketLengthWrong) && client.phase != Phase::Waiting);
     m.see("8-idle", outcome.by(NotWaiting) && client.phase == Phase::Idle);
@@ -50,23 +48,24 @@ pub fn alternates(m: &mut Marks, alternate: bool, outcome: Outcome) {
     m.see_each("without-alternate-", arrival_outcomes(), |o| !alternate && outcome == o);
 }
 
-/// What a kiss does to the record, with each exponent.
-pub fn kisses(m: &mut Marks, client: &Client, alternate: bool, answer: &[u8], outcome: Outcome) {
-    let stops = outcome.is_kiss() && alternate;
-    let backs_off = outcome.is_kiss() && !alternate;
-    let next = next_client(answer).map(|next| (next.phase, next.exponent));
-    m.see_each("kiss-stops-exponent-", 6..=14, |x| {
+/// What a kiss does to the record, with each exponent; the names begin with the given word.
+/// `alternate` is none where there is no kiss.
+pub fn kisses(
+    m: &mut Marks,
+    word: &str,
+    client: &Client,
+    next: Option<Client>,
+    alternate: Option<bool>,
+) {
+    let stops = alternate == Some(true);
+    let backs_off = alternate == Some(false);
+    let next = next.map(|next| (next.phase, next.exponent));
+    m.see_each(&format!("{word}kiss-stops-exponent-"), 6..=14, |x| {
         stops && client.exponent == x && next == Some((Phase::Stopped, x))
     });
-    m.see_each("kiss-backs-off-exponent-", 6..=14, |x: u8| {
+    m.see_each(&format!("{word}kiss-backs-off-exponent-"), 6..=14, |x: u8| {
         backs_off && client.exponent == x && next == Some((Phase::Idle, 14.min(x + 1)))
     });
-}
-
-/// The record at the end of an answer.
-fn next_client(answer: &[u8]) -> Option<Client> {
-    let octets = answer.last_chunk::<20>()?;
-    read_client(&mut Reader::new(octets)).ok()
 }
 
 /// Each length a packet can have, and what came of it.

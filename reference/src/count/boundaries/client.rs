@@ -2,16 +2,24 @@
 
 use super::Marks;
 use crate::client::{Client, Phase};
+use crate::conformance::records::{RECORD, read_client};
 use crate::count::outcome::Outcome;
+use crate::octets::Reader;
 use crate::refusal::Refusal::*;
 
-/// Every way a record can be illegal, alone.
-pub fn records(m: &mut Marks, client: &Client, outcome: Outcome) {
-    records_that_asked(m, client, outcome);
-    records_that_never_asked(m, client, outcome);
+/// The record at the end of an answer.
+pub fn handed_back(answer: &[u8]) -> Option<Client> {
+    let octets = answer.last_chunk::<RECORD>()?;
+    read_client(&mut Reader::new(octets)).ok()
 }
 
-fn records_that_asked(m: &mut Marks, client: &Client, outcome: Outcome) {
+/// Every way a record can be illegal, alone; the names begin with the given word.
+pub fn records(m: &mut Marks, word: &str, client: &Client, outcome: Outcome) {
+    records_that_asked(m, word, client, outcome);
+    records_that_never_asked(m, word, client, outcome);
+}
+
+fn records_that_asked(m: &mut Marks, word: &str, client: &Client, outcome: Outcome) {
     let refused = outcome.by(RecordNotLegal) && client.asked;
     let known = refused && (6..=14).contains(&client.exponent);
     let waits = known && client.phase == Phase::Waiting;
@@ -19,33 +27,33 @@ fn records_that_asked(m: &mut Marks, client: &Client, outcome: Outcome) {
     let version_alone = client.transmit == 0 && client.version != 0;
     let idle = known && client.phase == Phase::Idle;
     let stopped = known && client.phase == Phase::Stopped;
-    m.see("record-exponent-5", refused && client.exponent == 5);
-    m.see("record-exponent-15", refused && client.exponent == 15);
-    m.see("record-waits-zero", waits && client.transmit == 0);
-    m.see("record-waits-version-0", waits && client.version == 0);
-    m.see("record-waits-version-5", waits && client.version == 5);
-    m.see("record-idle-transmit", idle && transmit_alone);
-    m.see("record-idle-version", idle && version_alone);
-    m.see("record-stopped-transmit", stopped && transmit_alone);
-    m.see("record-stopped-version", stopped && version_alone);
+    m.see_with(word, "record-exponent-5", refused && client.exponent == 5);
+    m.see_with(word, "record-exponent-15", refused && client.exponent == 15);
+    m.see_with(word, "record-waits-zero", waits && client.transmit == 0);
+    m.see_with(word, "record-waits-version-0", waits && client.version == 0);
+    m.see_with(word, "record-waits-version-5", waits && client.version == 5);
+    m.see_with(word, "record-idle-transmit", idle && transmit_alone);
+    m.see_with(word, "record-idle-version", idle && version_alone);
+    m.see_with(word, "record-stopped-transmit", stopped && transmit_alone);
+    m.see_with(word, "record-stopped-version", stopped && version_alone);
 }
 
-fn records_that_never_asked(m: &mut Marks, client: &Client, outcome: Outcome) {
+fn records_that_never_asked(m: &mut Marks, word: &str, client: &Client, outcome: Outcome) {
     let never = outcome.by(RecordNotLegal) && !client.asked;
     let waits = never && client.phase == Phase::Waiting;
     let stopped = never && client.phase == Phase::Stopped;
     let idle = never && client.phase == Phase::Idle && client.transmit == 0 && client.version == 0;
-    m.see("record-never-waiting", waits && client.transmit != 0 && client.exponent == 6);
-    m.see("record-never-stopped", stopped && client.uptime == 0);
-    m.see("record-never-exponent-7", idle && client.exponent == 7 && client.uptime == 0);
-    m.see("record-never-uptime", idle && client.exponent == 6 && client.uptime != 0);
+    m.see_with(word, "record-never-waiting", waits && client.transmit != 0 && client.exponent == 6);
+    m.see_with(word, "record-never-stopped", stopped && client.uptime == 0);
+    m.see_with(word, "record-never-exponent-7", idle && client.exponent == 7 && client.uptime == 0);
+    m.see_with(word, "record-never-uptime", idle && client.exponent == 6 && client.uptime != 0);
 }
 
 /// An ask of a client, with its buffer's length, version, clock and uptime.
 pub fn ask(m: &mut Marks, client: &Client, outcome: Outcome, asked: (u8, u8, u64, u64)) {
     let (n, version, clock, uptime) = asked;
     let done = outcome.passed();
-    records(m, client, outcome);
+    records(m, "", client, outcome);
     m.see_each("buffer-", 0..=80, |length| n == length);
     m.see("n=47", outcome.by(BufferTooShort) && n == 47);
     m.see("n=48", done && n == 48);
@@ -74,11 +82,17 @@ fn poll_intervals(m: &mut Marks, client: &Client, uptime: u64, outcome: Outcome)
     m.see("due-past-2^64", early && uptime < 1 << 20 && client.uptime > u64::MAX - 64);
 }
 
-pub fn give_up(m: &mut Marks, client: &Client, uptime: u64, answer: &[u8], outcome: Outcome) {
+pub fn give_up(
+    m: &mut Marks,
+    client: &Client,
+    uptime: u64,
+    next: Option<Client>,
+    outcome: Outcome,
+) {
     let done = outcome.passed();
     let early = outcome.by(GaveUpTooSoon);
     let past = i128::from(uptime) - i128::from(client.uptime);
-    records(m, client, outcome);
+    records(m, "", client, outcome);
     m.see("15-past", early && past == 15);
     m.see("16-past", done && past == 16);
     m.see("below", early && past == -1);
@@ -87,7 +101,7 @@ pub fn give_up(m: &mut Marks, client: &Client, uptime: u64, answer: &[u8], outco
     m.see("8-idle", outcome.by(NotWaiting) && client.phase == Phase::Idle);
     m.see("8-stopped", outcome.by(NotWaiting) && client.phase == Phase::Stopped);
     m.see_each("exponent-", 6..=14, |exponent: u8| {
-        let next = 14.min(exponent + 1);
-        done && client.exponent == exponent && answer.last() == Some(&next)
+        let raised = 14.min(exponent + 1);
+        done && client.exponent == exponent && next.is_some_and(|next| next.exponent == raised)
     });
 }

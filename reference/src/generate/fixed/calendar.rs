@@ -4,8 +4,18 @@ use super::{Lines, pairs};
 use crate::calendar::Date;
 use crate::conformance::call::Call;
 
-const SECONDS: [u64; 7] =
-    [2_147_483_648, 2_208_988_800, 3_155_673_600, 2_021_563_904, 2_147_483_647, 0, 4_294_967_295];
+const SECONDS: [u64; 9] = [
+    2_147_483_648,
+    2_208_988_800,
+    // The first second of 2000, the last of the year before, and its leap day.
+    3_155_673_600,
+    3_155_673_599,
+    3_160_771_200,
+    2_021_563_904,
+    2_147_483_647,
+    0,
+    4_294_967_295,
+];
 
 const DATES: [(u32, u8, u8, u8, u8, u8); 27] = [
     (1968, 1, 20, 3, 14, 7),

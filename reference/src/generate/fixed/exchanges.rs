@@ -1,17 +1,13 @@
-//! Fixed lines of packets, the client and the server.
+//! Fixed lines of packets: read, written, arriving at the client and at the server.
 
-use super::{Lines, T};
-use crate::client::{Client, FRESH, Phase};
+use super::clients::{self, IDLE, STOPPED, ask, waiting};
+use super::{Lines, T, pairs};
+use crate::client::{Client, FRESH};
 use crate::conformance::call::{Call, LONGEST};
 use crate::generate::packets::octets_of;
 use crate::kiss::CODES;
 use crate::packet::Fields;
 use crate::server::Settings;
-
-/// A waiting client that sent at the clock.
-pub fn waiting(clock: u64) -> Client {
-    Client { phase: Phase::Waiting, transmit: clock, version: 4, asked: true, ..FRESH }
-}
 
 /// A plain reply.
 pub fn reply(t1: u64, t2: u64, t3: u64) -> Fields {
@@ -35,11 +31,9 @@ fn packet(fields: &Fields, length: u8, fill: u8) -> Vec<u8> {
     octets
 }
 
-/// The arrival of a packet, without an alternate and with one.
+/// The arrival of a packet with these fields, cut or lengthened.
 pub fn arrival(lines: &mut Lines, client: &Client, t4: u64, fields: &Fields, length: u8) {
-    let (client, packet) = (*client, packet(fields, length, 0xAB));
-    let call = |alternate| Call::Arrival { client, t4, alternate, packet: &packet };
-    lines.calls([false, true].map(call));
+    clients::arrival(lines, client, t4, &packet(fields, length, 0xAB));
 }
 
 fn server_reply(lines: &mut Lines, n: u8, length: u8) {
@@ -61,7 +55,7 @@ fn put_lengths(lines: &mut Lines) {
     for n in 0..=LONGEST {
         lines.call(Call::ReadFields { packet: &packet(&good, n, 0xCD) });
         lines.call(Call::WriteFields { n, fields: good });
-        lines.call(Call::Ask { client: FRESH, n, version: 4, clock: T, uptime: 7 });
+        ask(lines, &FRESH, (n, 4, T, 7));
         arrival(lines, &waiting(T), T, &good, n);
         server_reply(lines, n, 48);
         server_reply(lines, LONGEST, n);
@@ -83,15 +77,32 @@ fn put_exponents(lines: &mut Lines) {
     }
 }
 
-/// Asks and give-ups about the time that they are due, with each exponent.
-fn put_uptimes(lines: &mut Lines) {
-    for exponent in 6..=14 {
-        let client = Client { asked: true, uptime: 1000, exponent, ..FRESH };
-        let due = 1000 + (1 << exponent);
-        let ask = |uptime| Call::Ask { client, n: 48, version: 4, clock: T, uptime };
-        lines.calls([999, due - 1, due, due + 1].map(ask));
-        let client = Client { uptime: 1000, exponent, ..waiting(T) };
-        lines.calls([999, 1015, 1016, 1017].map(|uptime| Call::GiveUp { client, uptime }));
+/// Each test of a packet's own fields and of T4, alone and in pairs, of a reply and of a kiss.
+fn put_faults(lines: &mut Lines) {
+    let good = reply(T, T, T);
+    let fields = [
+        good,
+        Fields { originate: T + 1, ..good },
+        Fields { originate: 0, ..good },
+        Fields { mode: 3, ..good },
+        Fields { version: 3, ..good },
+        Fields { leap: 3, ..good },
+        Fields { leap: 3, stratum: 16, ..good },
+        Fields { stratum: 16, ..good },
+        Fields { stratum: 16, receive: 0, ..good },
+        Fields { receive: 0, ..good },
+        Fields { transmit: 0, ..good },
+    ];
+    for (fields, t4) in pairs(&fields, &[0, T - 1, T]) {
+        arrival(lines, &waiting(T), t4, &fields, 48);
+        arrival(lines, &waiting(T), t4, &Fields { stratum: 0, ..fields }, 68);
+    }
+}
+
+/// Packets for a client that does not wait.
+fn put_unwanted(lines: &mut Lines) {
+    for (client, length) in pairs(&[FRESH, IDLE, STOPPED], &[47, 48]) {
+        arrival(lines, &client, T, &reply(T, T, T), length);
     }
 }
 
@@ -128,7 +139,8 @@ pub fn put_lines(lines: &mut Lines) {
     put_lengths(lines);
     put_kisses(lines);
     put_exponents(lines);
-    put_uptimes(lines);
+    put_faults(lines);
+    put_unwanted(lines);
     lines.calls([Call::Fresh, Call::Constants]);
     put_roots(lines);
     put_roots_with_other_faults(lines);

@@ -1,12 +1,15 @@
 //! Fixed malformed lines.
 
-use super::Lines;
+use super::{Lines, pairs};
+use crate::associations::Associations;
 use crate::client::FRESH;
 use crate::conformance::call::*;
+use crate::conformance::list_call::{COUNT_AT, LARGEST_COUNT, ListCall, RecordCall, record_at};
+use crate::conformance::records::{ASKED_AFTER_PHASE, RECORD};
 
 /// Texts that are no line of digits, or no operation.
-const TEXTS: [&str; 13] =
-    ["", "F", "F00", "F000", "F3", "00", "0E", "F0\r", "F0 ", " F0", "F0\0", "G0", "0x"];
+const TEXTS: [&str; 14] =
+    ["", "F", "F00", "F000", "F3", "00", "0E", "11", "F0\r", "F0 ", " F0", "F0\0", "G0", "0x"];
 
 /// Wrong lengths of one operation's line.
 fn put_lengths(lines: &mut Lines, operation: u8, right: usize) {
@@ -17,28 +20,95 @@ fn put_lengths(lines: &mut Lines, operation: u8, right: usize) {
     }
 }
 
-/// A call's line with one octet set.
-fn with_octet(call: Call, at: usize, value: u8) -> Vec<u8> {
+fn line_of(call: &Call) -> Vec<u8> {
     let mut line = Vec::new();
     call.put(&mut line);
+    line
+}
+
+/// A call's line with one octet set.
+fn with_octet(call: &Call, at: usize, value: u8) -> Vec<u8> {
+    let mut line = line_of(call);
     if let Some(octet) = line.get_mut(at) {
         *octet = value;
     }
     line
 }
 
+/// An arrival has the longest packet here, so that each of the three is as long as can be.
+const LIST_CALLS: [RecordCall; 3] = [
+    RecordCall::Ask { n: 48, version: 4, clock: 1, uptime: 0 },
+    RecordCall::Arrival { t4: 1, packet: &[0; LONGEST as usize] },
+    RecordCall::GiveUp { uptime: 0 },
+];
+
+/// A call for the first record of a list.
+fn list_call(call: RecordCall, count: u8) -> Call {
+    let list = Associations { records: vec![FRESH; count.into()], in_use: 0 };
+    Call::OfList(ListCall { list, number: 0, call })
+}
+
+fn resized(line: &[u8], length: usize) -> Vec<u8> {
+    let mut line = line.to_vec();
+    line.resize(length, 0);
+    line
+}
+
+/// Lists one octet or one record too long or too short, and that end within their first octets.
+fn put_list_lengths(lines: &mut Lines) {
+    for (call, count) in pairs(&LIST_CALLS, &[0, 1, 2, 3, 4, 5, 6, 7, 8, 9]) {
+        let line = line_of(&list_call(call, count));
+        let end = record_at(count.into());
+        let shortest = if matches!(call, RecordCall::Ask { .. }) { end + 18 } else { end + 8 };
+        let longer = [line.len() + 1, line.len() + RECORD];
+        let shorter = [shortest - 1, shortest.saturating_sub(RECORD).max(1), end, 4, 3, 2, 1];
+        longer.into_iter().chain(shorter).for_each(|length| lines.octets(&resized(&line, length)));
+    }
+}
+
+/// A wrong phase and a wrong flag in each record of the longest list.
+fn put_list_records(lines: &mut Lines) {
+    for (call, number) in pairs(&LIST_CALLS, &[0, 1, 2, 3, 4, 5, 6, 7, 8]) {
+        let call = list_call(call, LARGEST_COUNT);
+        lines.octets(&with_octet(&call, record_at(number), 3));
+        lines.octets(&with_octet(&call, record_at(number) + ASKED_AFTER_PHASE, 2));
+    }
+}
+
+/// Counts that are too large, with so many records or not.
+fn put_list_counts(lines: &mut Lines) {
+    for call in LIST_CALLS {
+        lines.octets(&line_of(&list_call(call, LARGEST_COUNT + 1)));
+        pairs(&[0, 1, LARGEST_COUNT], &[LARGEST_COUNT + 1, 255]).for_each(|(records, count)| {
+            lines.octets(&with_octet(&list_call(call, records), COUNT_AT, count));
+        });
+    }
+}
+
+fn put_lists(lines: &mut Lines) {
+    put_list_lengths(lines);
+    put_list_records(lines);
+    put_list_counts(lines);
+    let [ask, _, _] = LIST_CALLS;
+    for count in 0..=LARGEST_COUNT {
+        let n_at = record_at(count.into());
+        lines.octets(&with_octet(&list_call(ask, count), n_at, LONGEST + 1));
+    }
+}
+
 pub fn put_lines(lines: &mut Lines) {
     put_lengths(lines, 0x0C, 17);
     put_lengths(lines, 0x0D, 16);
+    put_lists(lines);
     let clock = u64::from_be_bytes([1; 8]);
     let ask = Call::Ask { client: FRESH, n: 48, version: 4, clock, uptime: clock };
     let arrival = Call::Arrival { client: FRESH, t4: clock, alternate: false, packet: &[0; 48] };
-    lines.octets(&with_octet(ask, N_OF_ASK_AT, LONGEST + 1));
-    lines.octets(&with_octet(ask, PHASE_AT, 3));
-    lines.octets(&with_octet(ask, ASKED_AT, 2));
-    lines.octets(&with_octet(arrival, ALTERNATE_AT, 2));
+    lines.octets(&with_octet(&ask, N_OF_ASK_AT, LONGEST + 1));
+    lines.octets(&with_octet(&ask, PHASE_AT, 3));
+    lines.octets(&with_octet(&ask, ASKED_AT, 2));
+    lines.octets(&with_octet(&arrival, ALTERNATE_AT, 2));
     lines.octets(&[&[0x0B, 2], &[0; 31][..]].concat());
-    let mut long = with_octet(ask, N_OF_ASK_AT, LONGEST + 1);
+    let mut long = with_octet(&ask, N_OF_ASK_AT, LONGEST + 1);
     long.push(0);
     lines.octets(&long);
     for (character, length) in [(b'0', 5000), (b'0', 5001), (b'f', 70_000), (b'0', 140_001)] {

@@ -1,6 +1,7 @@
 //! Fixed lines of differences, offsets, sums and ticks.
 
-use super::exchanges::{arrival, reply, waiting};
+use super::clients::waiting;
+use super::exchanges::{arrival, reply};
 use super::{Lines, T, pairs};
 use crate::conformance::call::Call;
 
@@ -8,7 +9,7 @@ const FAR: u64 = 1 << 62;
 const BACK: u64 = T.wrapping_sub(FAR);
 
 /// T1 to T4.
-const EXCHANGES: [[u64; 4]; 16] = [
+const EXCHANGES: [[u64; 4]; 17] = [
     [T, T, T, T],
     [T, T, T, T + 1],
     [T, T, T, T + (1 << 36)],
@@ -25,6 +26,7 @@ const EXCHANGES: [[u64; 4]; 16] = [
     [0xFFFF_FFFA_0000_0000, 0x0000_0004_8000_0000, 0x0000_0005_8000_0000, 0xFFFF_FFFB_C000_0000],
     [0, 0, 0, 0],
     [u64::MAX; 4],
+    [u64::MAX - 1, u64::MAX, 1, 3],
 ];
 
 fn put_exchanges(lines: &mut Lines) {
