@@ -1,0 +1,3 @@
+pub mod OnList
+pub mod Row
+pub mod Shared
