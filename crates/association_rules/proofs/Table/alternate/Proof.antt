@@ -37,7 +37,9 @@ k c = c .before .before .before .before .before .loop .k
 -- what is tested is the record k places on
 tested : (c : tie.After-is-stopped Inv-loop μ-loop)
     → let s = start c .args in c .is-stopped .result ≡ isStopped (association (s .self .records) (round (s .self .count) (s .at) (k c)) .phase)
-tested c = cc
+tested c =
+    c .is-stopped .ensures
+    ∙ ap (λ client. isStopped (client .phase)) (c .before .record .ensures ∙ ap (association (start c .args .self .records)) (c .before .before .wrap .ensures))
 
 returns : tie.Need-returns Inv-loop μ-loop
 returns c =
