@@ -23,7 +23,7 @@ use Rattle.demands.specs.Form.{Form}
 use Rattle.demands.specs.Wrapper.{Wrapper, wrapped, through}
 use Rattle.demands.specs.Client as clients
 use Rattle.demands.specs.Client.{callRules, client}
-use Rattle.demands.specs.Associations.{Call, ask, arrival, giveUp, Input, Outcome, InList, AllLegal, useAfter, at-record, placed, lent, associations, table, ours}
+use Rattle.demands.specs.Associations.{ListCall, ask, arrival, giveUp, ListInput, ListOutcome, InList, AllLegal, useAfter, at-record, placed, lent, associations, table, ours}
 use Rattle.ordered_tests.proofs.Reflection.{WhereFalse, negated, both, is-false, is-below, within}
 use Rattle.demands.proofs.Form.{Meets, Each, Accepted, numbered, by, acceptance-shown, kiss-shown, Wraps, wrapped-meets, Leads, _before_, inner, led}
 use Rattle.demands.proofs.Legal.{legal}
@@ -49,18 +49,18 @@ all-legal (c ∷ rest) = both (legal c) (all-legal rest)
 
 abbrev listing : Wrapper client
 listing = record {
-  Input = Input;
-  Outcome = Outcome;
+  Input = ListInput;
+  Outcome = ListOutcome;
   shown = associations .shown;
   refusing = associations .refusing;
   read = λ i. tests.given (table i);
   show = placed;
 }
 
-leads : (i : Input) → Leads client (placed i) (table i) (associations .rules i)
+leads : (i : ListInput) → Leads client (placed i) (table i) (associations .rules i)
 leads i = in-list (i .list) (i .at) (i .inUse) before all-legal (i .list) before inner
 
-module _ (i : Input) where
+module _ (i : ListInput) where
   -- the tests before the client's give 35, 29, or the client's call at the record
   decided : (P : Given (Client × calls.Call) → Type 0) → P (refused 35) → P (refused 29) → P (answered (at-record i)) → P (tests.given (table i))
   decided P out illegal in-it = go (outside (length (i .list)) (i .at) (i .inUse)) (anyIllegal (i .list)) refl refl
@@ -82,7 +82,7 @@ module _ (i : Input) where
       (λ e. let z : _≡_ {A = ℕ} 0 1 = cc in absurd (omega arith))
       (λ e. let s : at-record i ≡ x = cc in subst (λ y. placed i (client .refusing y n) ≡ associations .refusing i n) s (same (i .call) refl))
     where
-      same : (x : Call) → i .call ≡ x → placed i (client .refusing (at-record i) n) ≡ associations .refusing i n
+      same : (x : ListCall) → i .call ≡ x → placed i (client .refusing (at-record i) n) ≡ associations .refusing i n
       same (ask x) e = rw e (λ j. record { result = calls.refused n; list = set-getD (i .list) (i .at) fresh j; inUse = i .inUse; octets = x .buffer })
       same (arrival x) e = rw e (λ j. record { result = calls.refused n; list = set-getD (i .list) (i .at) fresh j; inUse = i .inUse; octets = x .packet })
       same (giveUp x) e = rw e (λ j. record { result = calls.refused n; list = set-getD (i .list) (i .at) fresh j; inUse = i .inUse; octets = [] })
@@ -98,10 +98,10 @@ module _ (i : Input) where
   arrival-use (ArrivalAnswer.Kiss code row) = refl
 
   -- the client's outcome in its place, with this number in use
-  abbrev in-use : calls.Outcome → ℕ → Outcome
+  abbrev in-use : calls.Outcome → ℕ → ListOutcome
   in-use o n = record { result = o .result; list = set (i .list) (i .at) (o .next); inUse = n; octets = o .octets }
 
-  by-call : (x : Call) → i .call ≡ x → (a b : Bool) → outside (length (i .list)) (i .at) (i .inUse) ≡ a → anyIllegal (i .list) ≡ b → ours i ≡ through client listing clients.ours i
+  by-call : (x : ListCall) → i .call ≡ x → (a b : Bool) → outside (length (i .list)) (i .at) (i .inUse) ≡ a → anyIllegal (i .list) ≡ b → ours i ≡ through client listing clients.ours i
   unfolding askedFor listAfterAsk bufferAfterAsk gaveUpFor listAfterGiveUp arrivedFor listAfterArrival
   by-call (ask x) c true b e f = rw (c, e) refl
   by-call (ask x) c false true e f = rw (c, e, f) refl
@@ -125,7 +125,7 @@ module _ (i : Input) where
       let f = is-false (anyIllegal (i .list)) .from (all-legal (i .list) .to legal) in
       is-ours ∙ rw (e, f) refl
 
-shows-accepted : (i : Input) (c : Client) (x : calls.Call) → Each (λ o. Accepted associations (placed i o)) (callRules c x)
+shows-accepted : (i : ListInput) (c : Client) (x : calls.Call) → Each (λ o. Accepted associations (placed i o)) (callRules c x)
 shows-accepted i c (calls.ask x) = acceptance-shown
 shows-accepted i c (calls.arrival x) = (kiss-shown, acceptance-shown)
 shows-accepted i c (calls.giveUp x) = acceptance-shown
@@ -151,12 +151,12 @@ associations-meets = record {
   };
 }
   where
-    listed-at : (i : Input) (x : Call) → i .call ≡ x → T (numbered listed (associations .rules i))
+    listed-at : (i : ListInput) (x : ListCall) → i .call ≡ x → T (numbered listed (associations .rules i))
     listed-at i (ask x) e = rw e tt
     listed-at i (arrival x) e = rw e tt
     listed-at i (giveUp x) e = rw e tt
 
-    accepted-at : (i : Input) (x : Call) → i .call ≡ x → Each (Accepted associations) (associations .rules i)
+    accepted-at : (i : ListInput) (x : ListCall) → i .call ≡ x → Each (Accepted associations) (associations .rules i)
     accepted-at i (ask x) e = rw e acceptance-shown
     accepted-at i (arrival x) e = rw e (kiss-shown, acceptance-shown)
     accepted-at i (giveUp x) e = rw e acceptance-shown

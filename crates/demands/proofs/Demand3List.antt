@@ -26,7 +26,7 @@ use Rattle.demands.specs.Common.{Written}
 use Rattle.demands.specs.Behaviour as behaviour
 use Rattle.demands.specs.Behaviour.{client, reply, form, ours}
 use Rattle.demands.specs.Associations as associations
-use Rattle.demands.specs.Associations.{Call, ask, arrival, giveUp, InList, AllLegal, useAfter, clientCall, placed, at-record}
+use Rattle.demands.specs.Associations.{ListCall, ask, arrival, giveUp, InList, AllLegal, useAfter, clientCall, placed, at-record}
 use Rattle.demands.specs.Demand3 as one-record
 use Rattle.demands.specs.Demand3.{T1, T2, T3, T4}
 use Rattle.demands.specs.Demand3List.{Associations, Numbered, AllPermitted, Run, given, does, left, after, IsRefused, AllRefused, theAsk, theReply, atEnd, theArrival, Premises, Conclusions, Demand3List}
@@ -124,7 +124,7 @@ module _ (r : Run) (p : Premises ours r) where
   abbrev w : Client
   w = waitingFor c (r .version) (T1 (r .exchange)) (r .uptime)
 
-  abbrev input : associations.Input
+  abbrev input : associations.ListInput
   input = given ours (r .before) asking
 
   -- the ask was made in the list, with all records legal

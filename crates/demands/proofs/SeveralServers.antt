@@ -25,7 +25,7 @@ use Rattle.association_rules.specs.Associations.{outside, anyIllegal, associati
 use Rattle.association_rules.proofs.Alternates.{alternates}
 use Rattle.demands.specs.Client.{callRules}
 use Rattle.demands.specs.Behaviour.{ours}
-use Rattle.demands.specs.Associations.{Call, ask, arrival, giveUp, InList, AllLegal, useAfter, clientCall, placed, at-record}
+use Rattle.demands.specs.Associations.{ListCall, ask, arrival, giveUp, InList, AllLegal, useAfter, clientCall, placed, at-record}
 use Rattle.demands.specs.Demand3List.{Associations, Numbered, given, does, left, after}
 use Rattle.demands.specs.SeveralServers.{Runs, OneRuns, UseRuns, Worked}
 use Rattle.demands.specs.SingleServer.{NoAlternate}
@@ -64,10 +64,10 @@ module _ (list : List Client) (at : ℕ) (next : Client) where
   )
 
 -- where there is no alternate, the client's call leaves a record that is not stopped
-alone-runs : (c : Client) (a : Alternate) (x : Call) (o : calls.Outcome) → a ≡ Alternate.None → Passes (callRules c (clientCall (exists a) x)) o → single.Runs o
+alone-runs : (c : Client) (a : Alternate) (x : ListCall) (o : calls.Outcome) → a ≡ Alternate.None → Passes (callRules c (clientCall (exists a) x)) o → single.Runs o
 alone-runs c a x o e p = passing-runs c (clientCall (exists a) x) o (alone x) p
   where
-    alone : (x : Call) → NoAlternate (clientCall (exists a) x)
+    alone : (x : ListCall) → NoAlternate (clientCall (exists a) x)
     alone (ask x) = tt
     alone (arrival x) = ap exists e
     alone (giveUp x) = tt

@@ -18,23 +18,23 @@ use Rattle.demands.specs.Client.{shown, callRules}
 -- ---- what a call is given
 
 -- whether an alternate exists is read off the list
-pub record Arrival : Type 0 where
+pub record ListArrival : Type 0 where
   pub packet : List ℕ
   pub t4 : Timestamp
 
-pub data Call : Type 0 where
-  ask : calls.Ask → Call
-  arrival : Arrival → Call
-  giveUp : calls.GiveUp → Call
+pub data ListCall : Type 0 where
+  ask : calls.Ask → ListCall
+  arrival : ListArrival → ListCall
+  giveUp : calls.GiveUp → ListCall
 
 -- the records, the number of the one that the call is for, and the number in use
-pub record Input : Type 0 where
+pub record ListInput : Type 0 where
   pub list : List Client
   pub at : ℕ
   pub inUse : ℕ
-  pub call : Call
+  pub call : ListCall
 
-pub record Outcome : Type 0 where
+pub record ListOutcome : Type 0 where
   pub result : calls.Result
   pub list : List Client
   pub inUse : ℕ
@@ -57,17 +57,17 @@ useAfter calls.done a at inUse = inUse
 useAfter (calls.accepted offset half delay) a at inUse = inUse
 
 -- the client's call, told whether an alternate exists
-abbrev pub clientCall : Bool → Call → calls.Call
+abbrev pub clientCall : Bool → ListCall → calls.Call
 clientCall told (ask x) = calls.ask x
 clientCall told (arrival x) = calls.arrival (record { packet = x .packet; t4 = x .t4; alternate = told })
 clientCall told (giveUp x) = calls.giveUp x
 
-module _ (i : Input) where
+module _ (i : ListInput) where
   abbrev pub at-record : Client × calls.Call
   at-record = (association (i .list) (i .at), clientCall (exists (alternate (i .list) (i .at))) (i .call))
 
   -- the record that it hands back stands in its place, and all others are as they stood
-  abbrev pub placed : calls.Outcome → Outcome
+  abbrev pub placed : calls.Outcome → ListOutcome
   placed o = record {
     result = o .result;
     list = set (i .list) (i .at) (o .next);
@@ -75,15 +75,15 @@ module _ (i : Input) where
     octets = o .octets;
   }
 
-abbrev pub lent : Call → List ℕ
+abbrev pub lent : ListCall → List ℕ
 lent (ask x) = x .buffer
 lent (arrival x) = x .packet
 lent (giveUp x) = []
 
 abbrev pub associations : Form
 associations = record {
-  Input = Input;
-  Outcome = Outcome;
+  Input = ListInput;
+  Outcome = ListOutcome;
   shown = λ o. shown (o .result);
   refusing = λ i n. record { result = calls.refused n; list = i .list; inUse = i .inUse; octets = lent (i .call) };
   rules = λ i.
@@ -95,10 +95,10 @@ associations = record {
 -- ---- ours: the definitions that the contracts of the code cite
 
 -- what the tests before the client's own give, and then the client's call at its record
-abbrev pub table : Input → Tests (Client × calls.Call)
+abbrev pub table : ListInput → Tests (Client × calls.Call)
 table i = listTests (i .list) (i .at) (i .inUse) (otherwise (at-record i))
 
-abbrev does : List Client → (at inUse : ℕ) → Call → Outcome
+abbrev does : List Client → (at inUse : ℕ) → ListCall → ListOutcome
 does list at inUse (ask x) = record {
   result = calls.saidCall (askedFor list at inUse (length (x .buffer)) (x .version) (x .clock) (x .uptime) .answer);
   list = listAfterAsk list at inUse (length (x .buffer)) (x .version) (x .clock) (x .uptime);

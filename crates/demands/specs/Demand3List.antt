@@ -21,7 +21,7 @@ use Rattle.demands.specs.Common.{Written}
 use Rattle.demands.specs.Measure.{d}
 use Rattle.demands.specs.Reply.{LegallySet}
 use Rattle.demands.specs.Associations as associations
-use Rattle.demands.specs.Associations.{Call, ask, arrival, clientCall, Outcome}
+use Rattle.demands.specs.Associations.{ListCall, ask, arrival, clientCall, ListOutcome}
 use Rattle.demands.specs.Behaviour as behaviour
 use Rattle.demands.specs.Behaviour.{Behaviour, reply, form}
 use Rattle.demands.specs.Demand3 as one-record
@@ -35,7 +35,7 @@ pub record Associations : Type 0 where
 -- a call for the record of a number, in the list or out of it
 pub record Numbered : Type 0 where
   pub at : ℕ
-  pub call : Call
+  pub call : ListCall
 
 -- calls for this record are those that demand 3 permits, and calls for any other carry anything
 abbrev pub AllPermitted : ℕ → Timestamp → ℕ → List Numbered → Type 0
@@ -57,13 +57,13 @@ pub record Run : Type 0 where
   pub calls : List Numbered
 
 module _ (b : Behaviour) where
-  abbrev pub given : Associations → Numbered → associations.Input
+  abbrev pub given : Associations → Numbered → associations.ListInput
   given s x = record { list = s .list; at = x .at; inUse = s .inUse; call = x .call }
 
-  abbrev pub does : Associations → Numbered → Outcome
+  abbrev pub does : Associations → Numbered → ListOutcome
   does s x = b .does behaviour.association (given s x)
 
-  abbrev pub left : Outcome → Associations
+  abbrev pub left : ListOutcome → Associations
   left o = record { list = o .list; inUse = o .inUse }
 
   -- each call gets list and number in use as the call before left them
@@ -86,7 +86,7 @@ module _ (b : Behaviour) where
     abbrev e : Exchange
     e = r .exchange
 
-    abbrev pub theAsk : Outcome
+    abbrev pub theAsk : ListOutcome
     theAsk = does (r .before) (record { at = r .at; call = ask (record { buffer = r .buffer; version = r .version; clock = T1 e; uptime = r .uptime }) })
 
     abbrev pub theReply : Written ReplyAnswer
@@ -95,7 +95,7 @@ module _ (b : Behaviour) where
     abbrev pub atEnd : Associations
     atEnd = after (left theAsk) (r .calls)
 
-    abbrev pub theArrival : Outcome
+    abbrev pub theArrival : ListOutcome
     theArrival = does atEnd (record { at = r .at; call = arrival (record { packet = take 48 (theReply .octets); t4 = T4 e }) })
 
     pub record Premises : Type 0 where

@@ -105,7 +105,7 @@ pub record Both {A O : Type 0} (order : List Place) (table : Tests A) (rules : R
   pub in-table : ofTable table ≡ order
   pub in-rules : ofRules rules ≡ order
 
-abbrev listRules : List Client → (at inUse : ℕ) → associations.Call → Rules associations.Outcome
+abbrev listRules : List Client → (at inUse : ℕ) → associations.ListCall → Rules associations.ListOutcome
 listRules list at inUse x = associations.associations .rules (record { list = list; at = at; inUse = inUse; call = x })
 
 pub record Orders : Type 0 where
@@ -115,7 +115,7 @@ pub record Orders : Type 0 where
   pub list-ask : (list : List Client) (at inUse : ℕ) (x : Ask)
       → Both (listOrder ++ askOrder) (listTests list at inUse (askTests (association list at) (length (x .buffer)) (x .version) (x .clock) (x .uptime)))
       (listRules list at inUse (associations.ask x))
-  pub list-arrival : (list : List Client) (at inUse : ℕ) (x : associations.Arrival)
+  pub list-arrival : (list : List Client) (at inUse : ℕ) (x : associations.ListArrival)
       → Both (listOrder ++ arrivalOrder) (listTests list at inUse (arrivalTests (association list at) (x .packet) (x .t4))) (listRules list at inUse (associations.arrival x))
   pub list-give-up : (list : List Client) (at inUse : ℕ) (x : GiveUp)
       → Both (listOrder ++ giveUpOrder) (listTests list at inUse (giveUpTests (association list at) (x .uptime))) (listRules list at inUse (associations.giveUp x))

@@ -50,7 +50,7 @@ use Rattle.demands.specs.Form.{refusal, acceptance, Implementation}
 use Rattle.demands.specs.Client as clients
 use Rattle.demands.specs.Reply.{Request}
 use Rattle.demands.specs.Associations as associations
-use Rattle.demands.specs.Associations.{Input}
+use Rattle.demands.specs.Associations.{ListInput}
 use Rattle.demands.specs.SeveralServers.{rate}
 use Rattle.demands.specs.Behaviour.{client, association, reply, form, ours}
 use Rattle.demands.specs.Behaviour as behaviour
@@ -168,7 +168,7 @@ module _ (f : Implementation clients.client) where
     in-bound-at other demand = contradiction (inBound e (theArrival (withClient f) (run e) .result)) (in-bound e o (withClient f) asked demand) other
 
 -- three records that wait for the kiss RATE, one of them called
-abbrev kissed-at : (at inUse : ℕ) → Input
+abbrev kissed-at : (at inUse : ℕ) → ListInput
 kissed-at at inUse = record {
   list = replicate 3 (waiting slowBack);
   at = at;

@@ -31,7 +31,7 @@ use Rattle.hex_decode.specs.Decoding.{decode}
 use Rattle.frames.specs.Frames.{Parsed, call, malformed, parsed}
 use Rattle.demands.specs.Form.{Implementation}
 use Rattle.demands.specs.Associations as lists
-use Rattle.demands.specs.Associations.{Input, Outcome, associations}
+use Rattle.demands.specs.Associations.{ListInput, ListOutcome, associations}
 use Rattle.demands.specs.Reply as replies
 use Rattle.demands.specs.Reply.{Request, reply}
 use Rattle.demands.specs.Read.{read}
@@ -47,7 +47,7 @@ use Rattle.demands.specs.Line.{line}
 
 -- ---- the list: what is in use after a call
 
-abbrev inUseBy : (Input → Outcome → ℕ) → Implementation associations
+abbrev inUseBy : (ListInput → ListOutcome → ℕ) → Implementation associations
 inUseBy number i = record {
   result = lists.ours i .result;
   list = lists.ours i .list;
