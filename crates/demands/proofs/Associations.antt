@@ -8,13 +8,13 @@ use lib.Dec.{T}
 use lib.ListN.{length, set}
 use lib.Seq.{set-getD}
 use Rattle.refusals.specs.Numbers.{listed}
-use Rattle.ordered_tests.specs.Tests.{Tests, Given, refused, answered}
+use Rattle.ordered_tests.specs.Tests.{Tests, otherwise, Given, refused, answered}
 use Rattle.ordered_tests.specs.Tests as tests
 use Rattle.client.specs.declared.Client.{Client}
 use Rattle.client.specs.Record.{fresh}
 use Rattle.client.specs.Calls as calls
 use Rattle.association_rules.specs.Associations as rules
-use Rattle.association_rules.specs.Associations.{outside, anyIllegal, association, alternate, exists, askedFor, listAfterAsk, bufferAfterAsk, gaveUpFor, listAfterGiveUp, arrivedAt, arrivedFor, listAfterArrival}
+use Rattle.association_rules.specs.Associations.{outside, anyIllegal, listTests, association, alternate, exists, askedFor, listAfterAsk, bufferAfterAsk, gaveUpFor, listAfterGiveUp, arrivedAt, arrivedFor, listAfterArrival}
 use Rattle.client.specs.declared.CallAnswer.{CallAnswer}
 use Rattle.reply_checks.specs.declared.ArrivalAnswer.{ArrivalAnswer}
 use Rattle.client.specs.Ask.{afterAsk}
@@ -23,7 +23,7 @@ use Rattle.demands.specs.Form.{Form}
 use Rattle.demands.specs.Wrapper.{Wrapper, wrapped, through}
 use Rattle.demands.specs.Client as clients
 use Rattle.demands.specs.Client.{callRules, client}
-use Rattle.demands.specs.Associations.{ListCall, ask, arrival, giveUp, ListInput, ListOutcome, InList, AllLegal, useAfter, at-record, placed, lent, associations, table, ours}
+use Rattle.demands.specs.Associations.{ListCall, ask, arrival, giveUp, ListInput, ListOutcome, InList, AllLegal, useAfter, at-record, placed, lent, associations, ours}
 use Rattle.ordered_tests.proofs.Reflection.{WhereFalse, negated, both, is-false, is-below, within}
 use Rattle.demands.proofs.Form.{Meets, Each, Accepted, numbered, by, acceptance-shown, kiss-shown, Wraps, wrapped-meets, Leads, _before_, inner, led}
 use Rattle.demands.proofs.Legal.{legal}
@@ -46,6 +46,10 @@ all-legal [] = record { to = λ t. tt; from = λ t. tt }
 all-legal (c ∷ rest) = both (legal c) (all-legal rest)
 
 -- ---- the call around the client's
+
+-- the tests before the client's own, and then the client's call at its record
+abbrev table : ListInput → Tests (Client × calls.Call)
+table i = listTests (i .list) (i .at) (i .inUse) (otherwise (at-record i))
 
 abbrev listing : Wrapper client
 listing = record {

@@ -4,12 +4,11 @@ use mathlib.Core.Bool.{Bool}
 use mathlib.Core.List.{List, [], _∷_}
 use lib.ListN.{length, set}
 use Rattle.refusals.specs.Numbers.{not-in-list, record-not-legal}
-use Rattle.ordered_tests.specs.Tests.{Tests, otherwise}
 use Rattle.timestamp.specs.declared.Timestamp.{Timestamp}
 use Rattle.client.specs.declared.Client.{Client}
 use Rattle.client.specs.Calls as calls
 use Rattle.association_rules.specs.declared.Alternate.{Alternate}
-use Rattle.association_rules.specs.Associations.{listTests, association, alternate, exists, useAfterKiss, askedFor, listAfterAsk, bufferAfterAsk, gaveUpFor, listAfterGiveUp, arrivedFor, listAfterArrival}
+use Rattle.association_rules.specs.Associations.{association, alternate, exists, useAfterKiss, askedFor, listAfterAsk, bufferAfterAsk, gaveUpFor, listAfterGiveUp, arrivedFor, listAfterArrival}
 use Rattle.demands.specs.Form.{_unless_then_, Form, Implementation}
 use Rattle.demands.specs.Wrapper.{mapRules}
 use Rattle.demands.specs.Legal.{Legal}
@@ -93,10 +92,6 @@ associations = record {
 }
 
 -- ---- ours: the definitions that the contracts of the code cite
-
--- what the tests before the client's own give, and then the client's call at its record
-abbrev pub table : ListInput → Tests (Client × calls.Call)
-table i = listTests (i .list) (i .at) (i .inUse) (otherwise (at-record i))
 
 abbrev does : List Client → (at inUse : ℕ) → ListCall → ListOutcome
 does list at inUse (ask x) = record {
