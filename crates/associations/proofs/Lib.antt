@@ -1,3 +1,4 @@
 pub mod OnList
 pub mod Row
 pub mod Shared
+pub mod Steps

@@ -1,7 +1,8 @@
--- `associations::load` meets its contract: a walk of its MIR, by hand. It calls `Client::fresh`, then `read` at each of eight places (`reads`), and `table_of` on what they return. A `&[Client]` is Copy: what it owns is had twice for each call, and one copy is kept for the exit.
+-- `associations::load` meets its contract: a walk of its MIR, by hand. It calls `Client::fresh`, then `read` at each of eight places (`reads`), and `Table::new` on what they
+-- return. A `&[Client]` is Copy: what it owns is had twice for each call, and one copy is kept for the exit.
 -- Assumes nothing.
-use mathlib.Core.Path.{_≡_, refl, subst}
-use Prim.Native.Nat.{ℕ, _<_, _^_}
+use mathlib.Core.Path.{_≡_, refl, ap, subst, subst⁻¹}
+use Prim.Native.Nat.{ℕ, suc, _-_, _*_, _<_, _^_}
 use mathlib.Core.List.{[], _∷_, List}
 use lib.Dec.{lit<}
 use lib.ListN.{length, getD}
@@ -17,8 +18,7 @@ use ghost.Atoms.{Atoms, sem}
 use contract.Monad.{Fun, fact}
 use contract.Running.{givenOf, tables, tablesOf}
 use types.Kit.{Given, ‵, raw, Item, Go, Sq, Post as Outcome, lands, runs, _⊛_, some, later, ⋆, _$_, _∵_, !, qed, by, move, keep, drop, use0, use1, use2, split, join, pick, fsplit, fjoin, suffices, frame, await, done}
-use types.Run.{Opds, look, init, forget, stop, fld, from, load as loads, lit, of-opd, and-then, no-more, assigns, land, returns, enter, alloc1, alloc0, params1, pass1, pass0, free1, free0}
-use types.Part.{whole, sub, look-in}
+use types.Run.{Opds, look, init, lit, of-opd, no-more, returns, enter, alloc1, alloc0, params1, pass1, pass0, free0}
 use sound.WpLaws.{FmC, fmOf, WpFn-mono}
 use denote.RattleType.{owns}
 use denote.Laws.{Is, shows}
@@ -27,9 +27,9 @@ use denote.Builtin.{usize}
 use denote.Ref.{RefT}
 use denote.Slice.{sliceVal, ShrSlice, slice-vals, shr-slice-tells, shr-slice-copy}
 use denote.Signature.{plain}
-use denote.Steps.{owned, peeks, heard, nothing}
+use denote.Steps.{only, owned, peeks, heard, nothing}
 use denote.Struct.Laws as LL
-use denote.Triple.Entry.{Vals, onEntry}
+use denote.Triple.Entry.{onEntry}
 use denote.Triple.Spec.{tripleOf}
 use denote.Triple.Statement.{Contract, Triple}
 use denote.Triple.Call.{calls-at}
@@ -41,7 +41,8 @@ use Rattle.client.specs.declared.Client.{Client}
 use Rattle.association_rules.specs.declared.Table.{Table}
 use Rattle.client.specs.Record.{fresh}
 use Rattle.association_rules.specs.Table.{tableOf}
-use Rattle.associations.proofs.Row.{R, makes, shown, typed}
+use Rattle.associations.proofs.Row.{R, val, tells, makes, shown, typed}
+use Rattle.associations.proofs.Steps.{local, field-of, sets, lands-in, ends, _▸_}
 use Rattle.association_rules.proofs.Table as B
 use Rattle.association_rules.proofs.Table.Laws as B′
 use Rattle.client.proofs.Client.fresh as fresh-fn
@@ -52,10 +53,10 @@ use Rattle.associations.proofs.read as read
 use Rattle.associations.proofs.read.Symbol as read-def
 use Rattle.associations.proofs.read.Symbol.{name as #read}
 use Rattle.associations.proofs.read.Met as read-thm
-use Rattle.association_rules.proofs.Table.new as table
-use Rattle.association_rules.proofs.Table.new.Symbol as table-def
+use Rattle.association_rules.proofs.Table.new as new
+use Rattle.association_rules.proofs.Table.new.Symbol as new-def
 use Rattle.association_rules.proofs.Table.new.Symbol.{name as #new}
-use Rattle.association_rules.proofs.Table.new.Met as table-thm
+use Rattle.association_rules.proofs.Table.new.Met as new-thm
 use Rattle.associations.proofs.load.Key.{name as #load}
 use Rattle.associations.proofs.load as load
 use Rattle.associations.proofs.load.Statement as stated
@@ -63,6 +64,10 @@ use Rattle.associations.proofs.load.Code as code
 
 abbrev stayed : Stays (load.ended .signature .params) (load.ended .kept)
 stayed = (stay-none-slice (0 ∷ []) tt (plain (λ _. R)) yes, tt)
+
+-- where the local _i stands in the context, behind the lifetime's token and what the slice owns
+abbrev slot : ℕ → ℕ
+slot i = 26 - 2 * i
 
 -- the contracts that the proof cites
 module _ {M : Type 1} (𝓤 : URA M) (H : Heap 𝓤) (A : Atoms 𝓤) (mem : Memory → SProp 𝓤) (run : Routine → Fun 𝓤) where
@@ -72,18 +77,26 @@ module _ {M : Type 1} (𝓤 : URA M) (H : Heap 𝓤) (A : Atoms 𝓤) (mem : Mem
   abbrev Read : Contract 𝓤
   Read = tripleOf 𝓤 H A read.signature (read.spec 𝓤 H A mem run)
 
-  abbrev TableOf : Contract 𝓤
-  TableOf = tripleOf 𝓤 H A table.signature (table.spec 𝓤 H A mem run)
+  abbrev New : Contract 𝓤
+  New = tripleOf 𝓤 H A new.signature (new.spec 𝓤 H A mem run)
 
-module _ {M : Type 1} (𝓤 : URA M) (H : Heap 𝓤) (A : Atoms 𝓤) (W : Given 𝓤 H A) (mem : Memory → SProp 𝓤) (run : Routine → Fun 𝓤) (κ : Lft) (q : Share) (b o : ℕ) (γ : GName) (ys : List Client) (n-fits : length ys < 2 ^ 64) where
+module _ {M : Type 1} (𝓤 : URA M) (H : Heap 𝓤) (A : Atoms 𝓤) (W : Given 𝓤 H A) (mem : Memory → SProp 𝓤) (run : Routine → Fun 𝓤)
+    (κ : Lft) (q : Share) (b o : ℕ) (γ : GName) (ys : List Client) (n-fits : length ys < 2 ^ 64) where
   abbrev x : RefT (List Client)
   x = record { ptr = (b, o); name = γ; now = ys }
 
   abbrev s : Val
   s = sliceVal (b, o) (length ys)
 
+  -- the record that `read` returns at k, its machine value, and that it has one
   abbrev r : ℕ → Client
   r k = getD ys k fresh
+
+  abbrev v : ℕ → Val
+  v k = val (r k)
+
+  abbrev Typed : ℕ → Type 0
+  Typed k = Is R (r k) (v k ∷ [])
 
   abbrev Post : Val → SProp 𝓤
   Post = walkOf 𝓤 H A load.ended stayed (load.clauses 𝓤 H A mem run) .post (((κ, tt), (q, tt), tt, (x, tt), (s ∷ [], tt)), tt)
@@ -107,83 +120,118 @@ module _ {M : Type 1} (𝓤 : URA M) (H : Heap 𝓤) (A : Atoms 𝓤) (W : Given
   fresh-said : (c : Client) → ent 𝓤 (ensured 𝓤 H A fresh-fn.ended (fresh-fn.clauses 𝓤 H A mem run) tt tt tt c) (fact 𝓤 (c ≡ fresh))
   fresh-said c = exE 𝓤 _ (λ ws. snd∗ 𝓤 (sem 𝓤 H A (lasts fresh-fn.ended tt tt ws)) (fact 𝓤 (c ≡ fresh)))
 
-  -- `read` at k, with the fresh record at the machine value v
+  -- `read` at k, with the fresh record at the machine value w
   abbrev to-read : ℕ → Val → Read 𝓤 H A mem run .Ghost
-  to-read k v = (((κ, tt), (q, tt), tt, (x, (k, (fresh, tt))), (s ∷ [], (vint w64 k ∷ [], (v ∷ [], tt)))), tt)
+  to-read k w = (((κ, tt), (q, tt), tt, (x, (k, (fresh, tt))), (s ∷ [], (vint w64 k ∷ [], (w ∷ [], tt)))), tt)
 
-  goes-read : (k : ℕ) (v : Val) → Is R fresh (v ∷ []) → k < 2 ^ 64 → ent 𝓤 (⋆ 𝓤 H A (‵ (flft κ q) ∷ ‵ Own ∷ [])) (Read 𝓤 H A mem run .pre (to-read k v))
-  goes-read k v v-is fits =
-      qed W (‵ (flft κ q) ∷ ‵ Own ∷ []) ∵
-      nothing ! $ owned ! R (Is R) (makes 𝓤 H A) fresh _ v-is $ fjoin ! $ owned ! usize (Is usize) (uint-makes 𝓤 H A W w64) k _ (refl, fits) $ fjoin ! $ move ! (2 ∷ 0 ∷ []) $ fjoin ! $
+  goes-read : (k : ℕ) (w : Val) → Is R fresh (w ∷ []) → k < 2 ^ 64 → ent 𝓤 (⋆ 𝓤 H A (‵ (flft κ q) ∷ ‵ Own ∷ [])) (Read 𝓤 H A mem run .pre (to-read k w))
+  goes-read k w w-is fits =
+      qed W (‵ (flft κ q) ∷ ‵ Own ∷ []) ∵ nothing ! $
+      owned ! R (Is R) (makes 𝓤 H A) fresh _ w-is $ fjoin ! $
+      owned ! usize (Is usize) (uint-makes 𝓤 H A W w64) k _ (refl, fits) $ fjoin ! $ move ! (2 ∷ 0 ∷ []) $ fjoin ! $
       nothing ! $ move ! (2 ∷ 0 ∷ []) $ join ! $ join ! $ frame ! $ done !
 
   read-said : (k : ℕ) (c : Client) → ent 𝓤 (ensured 𝓤 H A read.ended (read.clauses 𝓤 H A mem run) (κ, tt) (x, (k, (fresh, tt))) tt c) (fact 𝓤 (c ≡ r k))
   read-said k c = exE 𝓤 _ (λ ws. snd∗ 𝓤 (sem 𝓤 H A (lasts read.ended (κ, tt) (x, (k, (fresh, tt))) ws)) (fact 𝓤 (c ≡ r k)))
 
-  abbrev Eight : Type 0
-  Eight = Val × (Val × (Val × (Val × (Val × (Val × (Val × Val))))))
+  -- `Table::new` on what the eight calls of `read` return
+  abbrev Given-to : Type 0
+  Given-to = ℕ × (Client × (Client × (Client × (Client × (Client × (Client × (Client × (Client × Unit {0}))))))))
 
-  abbrev Ises : Eight → Type 0
-  Ises w = (Is R (r 0) (w .0 ∷ []) × (Is R (r 1) (w .1 .0 ∷ []) × (Is R (r 2) (w .1 .1 .0 ∷ []) × (Is R (r 3) (w .1 .1 .1 .0 ∷ []) × (Is R (r 4) (w .1 .1 .1 .1 .0 ∷ []) × (Is R (r 5) (w .1 .1 .1 .1 .1 .0 ∷ []) × (Is R (r 6) (w .1 .1 .1 .1 .1 .1 .0 ∷ []) × (Is R (r 7) (w .1 .1 .1 .1 .1 .1 .1 ∷ [])))))))))
+  abbrev given : Given-to
+  given = (length ys, (r 0, (r 1, (r 2, (r 3, (r 4, (r 5, (r 6, (r 7, tt)))))))))
 
-  abbrev to-table : Eight → TableOf 𝓤 H A mem run .Ghost
-  to-table w = ((tt, tt, tt, (length ys, (r 0, (r 1, (r 2, (r 3, (r 4, (r 5, (r 6, (r 7, tt))))))))), (vint w64 (length ys) ∷ [], (w .0 ∷ [], (w .1 .0 ∷ [], (w .1 .1 .0 ∷ [], (w .1 .1 .1 .0 ∷ [], (w .1 .1 .1 .1 .0 ∷ [], (w .1 .1 .1 .1 .1 .0 ∷ [], (w .1 .1 .1 .1 .1 .1 .0 ∷ [], (w .1 .1 .1 .1 .1 .1 .1 ∷ [], tt)))))))))), tt)
+  abbrev to-new : New 𝓤 H A mem run .Ghost
+  to-new =
+      ((tt, tt, tt, given, (vint w64 (length ys) ∷ [], (v 0 ∷ [], (v 1 ∷ [], (v 2 ∷ [], (v 3 ∷ [], (v 4 ∷ [], (v 5 ∷ [], (v 6 ∷ [], (v 7 ∷ [], tt)))))))))), tt)
 
-  goes-table : (w : Eight) → Ises w → ent 𝓤 (emp 𝓤) (TableOf 𝓤 H A mem run .pre (to-table w))
-  goes-table w is =
-      qed W [] ∵ nothing ! $ owned ! R (Is R) (makes 𝓤 H A) (r 7) _ (is .1 .1 .1 .1 .1 .1 .1) $ fjoin ! $ owned ! R (Is R) (makes 𝓤 H A) (r 6) _ (is .1 .1 .1 .1 .1 .1 .0) $ fjoin ! $ owned ! R (Is R) (makes 𝓤 H A) (r 5) _ (is .1 .1 .1 .1 .1 .0) $ fjoin ! $ owned ! R (Is R) (makes 𝓤 H A) (r 4) _ (is .1 .1 .1 .1 .0) $ fjoin ! $ owned ! R (Is R) (makes 𝓤 H A) (r 3) _ (is .1 .1 .1 .0) $ fjoin ! $ owned ! R (Is R) (makes 𝓤 H A) (r 2) _ (is .1 .1 .0) $ fjoin ! $ owned ! R (Is R) (makes 𝓤 H A) (r 1) _ (is .1 .0) $ fjoin ! $ owned ! R (Is R) (makes 𝓤 H A) (r 0) _ (is .0) $ fjoin ! $
+  abbrev Are : Type 0
+  Are = Typed 0 × (Typed 1 × (Typed 2 × (Typed 3 × (Typed 4 × (Typed 5 × (Typed 6 × (Typed 7 × Unit {0})))))))
+
+  goes-new : Are → ent 𝓤 (emp 𝓤) (New 𝓤 H A mem run .pre to-new)
+  goes-new are =
+      qed W [] ∵ nothing ! $
+      owned ! R (Is R) (makes 𝓤 H A) (r 7) _ (are .1 .1 .1 .1 .1 .1 .1 .0) $ fjoin ! $
+      owned ! R (Is R) (makes 𝓤 H A) (r 6) _ (are .1 .1 .1 .1 .1 .1 .0) $ fjoin ! $
+      owned ! R (Is R) (makes 𝓤 H A) (r 5) _ (are .1 .1 .1 .1 .1 .0) $ fjoin ! $
+      owned ! R (Is R) (makes 𝓤 H A) (r 4) _ (are .1 .1 .1 .1 .0) $ fjoin ! $
+      owned ! R (Is R) (makes 𝓤 H A) (r 3) _ (are .1 .1 .1 .0) $ fjoin ! $
+      owned ! R (Is R) (makes 𝓤 H A) (r 2) _ (are .1 .1 .0) $ fjoin ! $
+      owned ! R (Is R) (makes 𝓤 H A) (r 1) _ (are .1 .0) $ fjoin ! $
+      owned ! R (Is R) (makes 𝓤 H A) (r 0) _ (are .0) $ fjoin ! $
       owned ! usize (Is usize) (uint-makes 𝓤 H A W w64) (length ys) _ (refl, n-fits) $ fjoin ! $ nothing ! $ join ! $ frame ! $ done !
 
-  table-said : (t : Table) → ent 𝓤 (ensured 𝓤 H A table.ended (table.clauses 𝓤 H A mem run) tt (length ys, (r 0, (r 1, (r 2, (r 3, (r 4, (r 5, (r 6, (r 7, tt))))))))) tt t) (fact 𝓤 (t ≡ tableOf ys))
-  table-said t = exE 𝓤 _ (λ ws. snd∗ 𝓤 (sem 𝓤 H A (lasts table.ended tt (length ys, (r 0, (r 1, (r 2, (r 3, (r 4, (r 5, (r 6, (r 7, tt))))))))) ws)) (fact 𝓤 (t ≡ tableOf ys)))
+  new-said : (t : Table) → ent 𝓤 (ensured 𝓤 H A new.ended (new.clauses 𝓤 H A mem run) tt given tt t) (fact 𝓤 (t ≡ tableOf ys))
+  new-said t = exE 𝓤 _ (λ ws. snd∗ 𝓤 (sem 𝓤 H A (lasts new.ended tt given ws)) (fact 𝓤 (t ≡ tableOf ys)))
 
-  module _ (C : Calls 𝓤 H) (Λ : Loops 𝓤 H) (fm : FmC 𝓤 H (W .laws) C) (known-fresh : Triple 𝓤 (C #fresh) (Fresh 𝓤 H A mem run)) (known-read : Triple 𝓤 (C #read) (Read 𝓤 H A mem run)) (known-table : Triple 𝓤 (C #new) (TableOf 𝓤 H A mem run)) where
+  module _ (C : Calls 𝓤 H) (Λ : Loops 𝓤 H) (fm : FmC 𝓤 H (W .laws) C) (known-fresh : Triple 𝓤 (C #fresh) (Fresh 𝓤 H A mem run))
+      (known-read : Triple 𝓤 (C #read) (Read 𝓤 H A mem run)) (known-new : Triple 𝓤 (C #new) (New 𝓤 H A mem run)) where
     -- one call of `read`: the token and the slice are there before it and after it
-    reads : {Γ : List (Item 𝓤)} {E : Env 𝓤 H} {xs : List Operand} {d : Place} {rest : Body} {p : Outcome 𝓤 H} (k : ℕ) (v : Val) → Is R fresh (v ∷ []) → k < 2 ^ 64
-        → Opds (Go {0}) W (raw (Read 𝓤 H A mem run .pre (to-read k v)) ∷ ‵ Own ∷ Γ) E xs (s ∷ vint w64 k ∷ v ∷ [])
-        → ((w : Val) → Is R (r k) (w ∷ []) → Sq W (‵ (flft κ q) ∷ ‵ Own ∷ Γ) (lands C Λ E d w rest p))
+    reads : {Γ : List (Item 𝓤)} {E : Env 𝓤 H} {xs : List Operand} {d : Place} {rest : Body} {p : Outcome 𝓤 H} (k : ℕ) (w : Val) → Is R fresh (w ∷ []) → k < 2 ^ 64
+        → Opds (Go {0}) W (raw (Read 𝓤 H A mem run .pre (to-read k w)) ∷ ‵ Own ∷ Γ) E xs (s ∷ vint w64 k ∷ w ∷ [])
+        → (Typed k → Sq W (‵ (flft κ q) ∷ ‵ Own ∷ Γ) (lands C Λ E d (v k) rest p))
         → Sq W (‵ (flft κ q) ∷ ‵ Own ∷ Γ) (runs C Λ E (seq (call #read xs d) rest) p)
-    reads k v v-is fits os go =
+    reads {Γ} {E} {d = d} {rest} {p} k w w-is fits os go =
         move ! (1 ∷ []) $ use1 W (‵ Own ⊛ ‵ Own) (shr-slice-copy 𝓤 H A W (named 0) κ R .twice x (s ∷ [])) $ split ! $
-        move ! (2 ∷ 0 ∷ []) $ use2 W (raw (Read 𝓤 H A mem run .pre (to-read k v))) (goes-read k v v-is fits) $
-        calls-at ! fm (Read 𝓤 H A mem run) known-read (to-read k v) os (λ w.
-        use1 W (later (some (λ (c : Client). ((‵ (flft κ q) ⊛ ‵ ftrue) ⊛ ‵ (R .own c (w ∷ []))) ⊛ raw (ensured 𝓤 H A read.ended (read.clauses 𝓤 H A mem run) (κ, tt) (x, (k, (fresh, tt))) tt c)))) (id⊢ 𝓤 _) $ await ! tt $ pick ! (λ c.
+        move ! (2 ∷ 0 ∷ []) $ use2 W (raw (Read 𝓤 H A mem run .pre (to-read k w))) (goes-read k w w-is fits) $
+        calls-at ! fm (Read 𝓤 H A mem run) known-read (to-read k w) os (λ u.
+        use1 W (later (some (λ (c : Client). ((‵ (flft κ q) ⊛ ‵ ftrue) ⊛ ‵ (R .own c (u ∷ []))) ⊛ raw (ensured 𝓤 H A read.ended (read.clauses 𝓤 H A mem run) (κ, tt) (x, (k, (fresh, tt))) tt c))))
+        (id⊢ 𝓤 _) $ await ! tt $ pick ! (λ c.
         split ! $ move ! (1 ∷ []) $ use1 W (raw (fact 𝓤 (c ≡ r k))) (read-said k c) $ heard ! (c ≡ r k) (λ e.
-        split ! $ move ! (1 ∷ []) $ peeks ! R (Is R) (shown 𝓤 H A) c (w ∷ []) (λ is. drop ! $ split ! $ move ! (1 ∷ []) $ drop ! $
-        go w (subst (λ (z : Client). Is R z (w ∷ [])) e is)))))
+        split ! $ move ! (1 ∷ []) $ peeks ! R (Is R) (shown 𝓤 H A) c (u ∷ []) (λ is. drop ! $ split ! $ move ! (1 ∷ []) $ drop ! $
+        let u-is : Is R (r k) (u ∷ []) = subst (λ (z : Client). Is R z (u ∷ [])) e is in
+        let same : u ≡ v k = ap only (tells (r k) _ u-is) in
+        subst⁻¹ (λ (z : Val). Sq W (‵ (flft κ q) ∷ ‵ Own ∷ Γ) (lands C Λ E d z rest p)) same (go (subst (λ (z : Val). Is R (r k) (z ∷ [])) same u-is))))))
 
     walk : ent 𝓤 (onEntry 𝓤 H A load.signature (κ, tt) (q, tt) (x, tt) (s ∷ [], tt)) (WpFn 𝓤 H C Λ code.function (s ∷ []) Post)
     walk =
         qed W ((‵ (flft κ q) ⊛ ‵ ftrue) ∷ ‵ (owns (ShrSlice (named 0) κ R ∷ []) (x, tt) (s ∷ [], tt)) ∷ []) ∵ enter ! C Λ code.function (s ∷ []) _ $
-        alloc1 ! (λ l₀. alloc1 ! (λ l₁. alloc1 ! (λ l₂. alloc1 ! (λ l₃. alloc1 ! (λ l₄. alloc1 ! (λ l₅. alloc1 ! (λ l₆. alloc1 ! (λ l₇. alloc1 ! (λ l₈. alloc1 ! (λ l₉. alloc1 ! (λ l₁₀. alloc1 ! (λ l₁₁. alloc0 ! $ params1 ! $ pass1 ! (init ! 20 refl (tt, (tt, (record { fits = n-fits }, tt)))) $ pass0 ! $
+        alloc1 ! (λ l₀. alloc1 ! (λ l₁. alloc1 ! (λ l₂. alloc1 ! (λ l₃. alloc1 ! (λ l₄. alloc1 ! (λ l₅. alloc1 ! (λ l₆. alloc1 ! (λ l₇. alloc1 ! (λ l₈.
+        alloc1 ! (λ l₉. alloc1 ! (λ l₁₀. alloc1 ! (λ l₁₁. alloc0 ! $ params1 ! $ pass1 ! (init ! (slot 1 - 4) refl (tt, (tt, (record { fits = n-fits }, tt)))) $ pass0 ! $
         move ! (25 ∷ []) $ fsplit ! $ move ! (26 ∷ []) $ split ! $ move ! (0 ∷ 2 ∷ []) $
         -- [the token; what list owns; true; true; _11; …; _10; …; and so on to _1; …; room for _0; …]
+        -- `Client::fresh`
         use0 W (raw (Fresh 𝓤 H A mem run .pre to-fresh)) goes-fresh $
-        calls-at ! fm (Fresh 𝓤 H A mem run) known-fresh to-fresh (no-more !) (λ v.
-        use1 W (later (some (λ (c : Client). (‵ ftrue ⊛ ‵ (R .own c (v ∷ []))) ⊛ raw (ensured 𝓤 H A fresh-fn.ended (fresh-fn.clauses 𝓤 H A mem run) tt tt tt c)))) (id⊢ 𝓤 _) $ await ! tt $ pick ! (λ c.
+        calls-at ! fm (Fresh 𝓤 H A mem run) known-fresh to-fresh (no-more !) (λ w.
+        use1 W (later (some (λ (c : Client). (‵ ftrue ⊛ ‵ (R .own c (w ∷ []))) ⊛ raw (ensured 𝓤 H A fresh-fn.ended (fresh-fn.clauses 𝓤 H A mem run) tt tt tt c))))
+        (id⊢ 𝓤 _) $ await ! tt $ pick ! (λ c.
         split ! $ move ! (1 ∷ []) $ use1 W (raw (fact 𝓤 (c ≡ fresh))) (fresh-said c) $ heard ! (c ≡ fresh) (λ e.
-        split ! $ drop ! $ peeks ! R (Is R) (shown 𝓤 H A) c (v ∷ []) (λ is. drop ! $
-        let v-is : Is R fresh (v ∷ []) = subst (λ (z : Client). Is R z (v ∷ [])) e is in
-        land ! (from ! (stop !)) (init ! 22 refl (typed 𝓤 H A W fresh _ v-is)) $
-        assigns ! (of-opd ! (loads ! (from ! (fld ! refl (stop !))) (look-in ! 24 (sub ! 1 refl (whole !))))) (from ! (stop !)) (init ! 20 refl (tt, record { fits = n-fits })) $
-        reads 0 v v-is (lit< tt) (and-then ! (loads ! (from ! (stop !)) (look ! 24 refl)) (and-then ! (lit ! tt) (and-then ! (loads ! (from ! (stop !)) (look ! 22 refl)) (no-more !)))) (λ w₀ is₀. land ! (from ! (stop !)) (init ! 18 refl (typed 𝓤 H A W (r 0) _ is₀)) $
-        reads 1 v v-is (lit< tt) (and-then ! (loads ! (from ! (stop !)) (look ! 24 refl)) (and-then ! (lit ! tt) (and-then ! (loads ! (from ! (stop !)) (look ! 22 refl)) (no-more !)))) (λ w₁ is₁. land ! (from ! (stop !)) (init ! 16 refl (typed 𝓤 H A W (r 1) _ is₁)) $
-        reads 2 v v-is (lit< tt) (and-then ! (loads ! (from ! (stop !)) (look ! 24 refl)) (and-then ! (lit ! tt) (and-then ! (loads ! (from ! (stop !)) (look ! 22 refl)) (no-more !)))) (λ w₂ is₂. land ! (from ! (stop !)) (init ! 14 refl (typed 𝓤 H A W (r 2) _ is₂)) $
-        reads 3 v v-is (lit< tt) (and-then ! (loads ! (from ! (stop !)) (look ! 24 refl)) (and-then ! (lit ! tt) (and-then ! (loads ! (from ! (stop !)) (look ! 22 refl)) (no-more !)))) (λ w₃ is₃. land ! (from ! (stop !)) (init ! 12 refl (typed 𝓤 H A W (r 3) _ is₃)) $
-        reads 4 v v-is (lit< tt) (and-then ! (loads ! (from ! (stop !)) (look ! 24 refl)) (and-then ! (lit ! tt) (and-then ! (loads ! (from ! (stop !)) (look ! 22 refl)) (no-more !)))) (λ w₄ is₄. land ! (from ! (stop !)) (init ! 10 refl (typed 𝓤 H A W (r 4) _ is₄)) $
-        reads 5 v v-is (lit< tt) (and-then ! (loads ! (from ! (stop !)) (look ! 24 refl)) (and-then ! (lit ! tt) (and-then ! (loads ! (from ! (stop !)) (look ! 22 refl)) (no-more !)))) (λ w₅ is₅. land ! (from ! (stop !)) (init ! 8 refl (typed 𝓤 H A W (r 5) _ is₅)) $
-        reads 6 v v-is (lit< tt) (and-then ! (loads ! (from ! (stop !)) (look ! 24 refl)) (and-then ! (lit ! tt) (and-then ! (loads ! (from ! (stop !)) (look ! 22 refl)) (no-more !)))) (λ w₆ is₆. land ! (from ! (stop !)) (init ! 6 refl (typed 𝓤 H A W (r 6) _ is₆)) $
-        reads 7 v v-is (lit< tt) (and-then ! (loads ! (from ! (stop !)) (look ! 24 refl)) (and-then ! (lit ! tt) (and-then ! (loads ! (from ! (stop !)) (look ! 22 refl)) (no-more !)))) (λ w₇ is₇. land ! (from ! (stop !)) (init ! 4 refl (typed 𝓤 H A W (r 7) _ is₇)) $
-        let w : Eight = (w₀, (w₁, (w₂, (w₃, (w₄, (w₅, (w₆, w₇))))))) in
-        use0 W (raw (TableOf 𝓤 H A mem run .pre (to-table w))) (goes-table w (is₀, (is₁, (is₂, (is₃, (is₄, (is₅, (is₆, is₇)))))))) $
-        calls-at ! fm (TableOf 𝓤 H A mem run) known-table (to-table w) (and-then ! (loads ! (from ! (stop !)) (look ! 21 refl)) (and-then ! (loads ! (from ! (stop !)) (look ! 19 refl)) (and-then ! (loads ! (from ! (stop !)) (look ! 17 refl)) (and-then ! (loads ! (from ! (stop !)) (look ! 15 refl)) (and-then ! (loads ! (from ! (stop !)) (look ! 13 refl)) (and-then ! (loads ! (from ! (stop !)) (look ! 11 refl)) (and-then ! (loads ! (from ! (stop !)) (look ! 9 refl)) (and-then ! (loads ! (from ! (stop !)) (look ! 7 refl)) (and-then ! (loads ! (from ! (stop !)) (look ! 5 refl)) (no-more !)))))))))) (λ u.
-        use1 W (later (some (λ (t : Table). (‵ ftrue ⊛ ‵ (B.the-row .own t (u ∷ []))) ⊛ raw (ensured 𝓤 H A table.ended (table.clauses 𝓤 H A mem run) tt (length ys, (r 0, (r 1, (r 2, (r 3, (r 4, (r 5, (r 6, (r 7, tt))))))))) tt t)))) (id⊢ 𝓤 _) $ await ! tt $ pick ! (λ t.
-        split ! $ move ! (1 ∷ []) $ use1 W (raw (fact 𝓤 (t ≡ tableOf ys))) (table-said t) $ heard ! (t ≡ tableOf ys) (λ e.
+        split ! $ drop ! $ peeks ! R (Is R) (shown 𝓤 H A) c (w ∷ []) (λ is. drop ! $
+        let w-is : Is R fresh (w ∷ []) = subst (λ (z : Client). Is R z (w ∷ [])) e is in
+        lands-in ! (slot 2) refl (typed 𝓤 H A W fresh _ w-is) $
+        sets ! (slot 3) (of-opd ! (field-of ! (slot 1) 1 refl refl refl)) refl (tt, record { fits = n-fits }) $
+        -- `read`, eight times
+        reads 0 w w-is (lit< tt) (local ! (slot 1) refl ▸ lit ! tt ▸ local ! (slot 2) refl ▸ no-more !) (λ is₀.
+        lands-in ! (slot 4) refl (typed 𝓤 H A W (r 0) _ is₀) $
+        reads 1 w w-is (lit< tt) (local ! (slot 1) refl ▸ lit ! tt ▸ local ! (slot 2) refl ▸ no-more !) (λ is₁.
+        lands-in ! (slot 5) refl (typed 𝓤 H A W (r 1) _ is₁) $
+        reads 2 w w-is (lit< tt) (local ! (slot 1) refl ▸ lit ! tt ▸ local ! (slot 2) refl ▸ no-more !) (λ is₂.
+        lands-in ! (slot 6) refl (typed 𝓤 H A W (r 2) _ is₂) $
+        reads 3 w w-is (lit< tt) (local ! (slot 1) refl ▸ lit ! tt ▸ local ! (slot 2) refl ▸ no-more !) (λ is₃.
+        lands-in ! (slot 7) refl (typed 𝓤 H A W (r 3) _ is₃) $
+        reads 4 w w-is (lit< tt) (local ! (slot 1) refl ▸ lit ! tt ▸ local ! (slot 2) refl ▸ no-more !) (λ is₄.
+        lands-in ! (slot 8) refl (typed 𝓤 H A W (r 4) _ is₄) $
+        reads 5 w w-is (lit< tt) (local ! (slot 1) refl ▸ lit ! tt ▸ local ! (slot 2) refl ▸ no-more !) (λ is₅.
+        lands-in ! (slot 9) refl (typed 𝓤 H A W (r 5) _ is₅) $
+        reads 6 w w-is (lit< tt) (local ! (slot 1) refl ▸ lit ! tt ▸ local ! (slot 2) refl ▸ no-more !) (λ is₆.
+        lands-in ! (slot 10) refl (typed 𝓤 H A W (r 6) _ is₆) $
+        reads 7 w w-is (lit< tt) (local ! (slot 1) refl ▸ lit ! tt ▸ local ! (slot 2) refl ▸ no-more !) (λ is₇.
+        lands-in ! (slot 11) refl (typed 𝓤 H A W (r 7) _ is₇) $
+        -- `Table::new`
+        use0 W (raw (New 𝓤 H A mem run .pre to-new)) (goes-new (is₀, (is₁, (is₂, (is₃, (is₄, (is₅, (is₆, (is₇, tt))))))))) $
+        calls-at ! fm (New 𝓤 H A mem run) known-new to-new
+        (local ! (suc (slot 3)) refl ▸ local ! (suc (slot 4)) refl ▸ local ! (suc (slot 5)) refl ▸ local ! (suc (slot 6)) refl ▸ local ! (suc (slot 7)) refl ▸
+        local ! (suc (slot 8)) refl ▸ local ! (suc (slot 9)) refl ▸ local ! (suc (slot 10)) refl ▸ local ! (suc (slot 11)) refl ▸ no-more !) (λ u.
+        use1 W (later (some (λ (t : Table). (‵ ftrue ⊛ ‵ (B.the-row .own t (u ∷ []))) ⊛ raw (ensured 𝓤 H A new.ended (new.clauses 𝓤 H A mem run) tt given tt t))))
+        (id⊢ 𝓤 _) $ await ! tt $ pick ! (λ t.
+        split ! $ move ! (1 ∷ []) $ use1 W (raw (fact 𝓤 (t ≡ tableOf ys))) (new-said t) $ heard ! (t ≡ tableOf ys) (λ e.
         split ! $ drop ! $ peeks ! B.the-row (Is B.the-row) (shows 𝓤 H A B.the-row) t (u ∷ []) (λ is.
         -- [the table; the token; what list owns; true; true; _11; …]
-        land ! (from ! (stop !)) (init ! 27 refl (LL.lawful B.the-type B′.the-laws 𝓤 H A W .typed t _ is .0)) $
-        returns ! (look ! 27 refl) $ forget ! 5 refl $ forget ! 7 refl $ forget ! 9 refl $ forget ! 11 refl $ forget ! 13 refl $ forget ! 15 refl $ forget ! 17 refl $ forget ! 19 refl $ forget ! 21 refl $ forget ! 23 refl $ forget ! 25 refl $ forget ! 27 refl $
-        move ! (27 ∷ 28 ∷ []) $ free1 ! $ move ! (25 ∷ 26 ∷ []) $ free1 ! $ move ! (23 ∷ 24 ∷ []) $ free1 ! $ move ! (21 ∷ 22 ∷ []) $ free1 ! $ move ! (19 ∷ 20 ∷ []) $ free1 ! $ move ! (17 ∷ 18 ∷ []) $ free1 ! $ move ! (15 ∷ 16 ∷ []) $ free1 ! $ move ! (13 ∷ 14 ∷ []) $ free1 ! $ move ! (11 ∷ 12 ∷ []) $ free1 ! $ move ! (9 ∷ 10 ∷ []) $ free1 ! $ move ! (7 ∷ 8 ∷ []) $ free1 ! $ move ! (5 ∷ 6 ∷ []) $ free1 ! $ free0 ! $
+        lands-in ! (suc (slot 0)) refl (LL.lawful B.the-type B′.the-laws 𝓤 H A W .typed t _ is .0) $
+        returns ! (look ! (suc (slot 0)) refl) $
+        ends ! (suc (slot 0)) refl refl $ ends ! (suc (slot 1)) refl refl $ ends ! (suc (slot 2)) refl refl $ ends ! (suc (slot 3)) refl refl $
+        ends ! (suc (slot 4)) refl refl $ ends ! (suc (slot 5)) refl refl $ ends ! (suc (slot 6)) refl refl $ ends ! (suc (slot 7)) refl refl $
+        ends ! (suc (slot 8)) refl refl $ ends ! (suc (slot 9)) refl refl $ ends ! (suc (slot 10)) refl refl $ ends ! (suc (slot 11)) refl refl $ free0 ! $
         keep ! (0 ∷ 1 ∷ 2 ∷ []) $ by ! (exits t u e)))))))))))))))))))))))))))))
 
 pub load-spec : {M : Type 1} → stated.statement M
@@ -202,4 +250,4 @@ load-spec 𝓤 H 𝓜 𝓖 𝓡 =
     (walk 𝓤 H A W mem run (κs .0) (qs .0) (a .0 .ptr .0) (a .0 .ptr .1) (a .0 .name) (a .0 .now) (are .0 .0 .1 .0) (𝓣 .C) (𝓣 .Λ) (fmOf 𝓤 H (W .laws) 𝓣)
     (cited 𝓤 H (Fresh 𝓤 H A mem run) 𝓜 𝓡 code.env #fresh fresh-def.routine code.calls-client·Client·fresh (fresh-thm.met 𝓤 H 𝓜 𝓖 𝓡))
     (cited 𝓤 H (Read 𝓤 H A mem run) 𝓜 𝓡 code.env #read read-def.routine code.calls-associations·read (read-thm.met 𝓤 H 𝓜 𝓖 𝓡))
-    (cited 𝓤 H (TableOf 𝓤 H A mem run) 𝓜 𝓡 code.env #new table-def.routine code.calls-association-rules·Table·new (table-thm.met 𝓤 H 𝓜 𝓖 𝓡))))))
+    (cited 𝓤 H (New 𝓤 H A mem run) 𝓜 𝓡 code.env #new new-def.routine code.calls-association-rules·Table·new (new-thm.met 𝓤 H 𝓜 𝓖 𝓡))))))

@@ -1,7 +1,8 @@
--- `associations::read` meets its contract: a walk of its MIR, by hand. Within the list the place of `list[at]` is computed, the slice is looked into, the record is taken out of the row, read whole, and put back. Past the end the third argument is returned.
+-- `associations::read` meets its contract: a walk of its MIR, by hand. Within the list the place of `list[at]` is computed, the slice is looked into, the record is taken
+-- out of the row, read whole, and put back. Past the end the third argument is returned.
 -- Assumes nothing.
 use mathlib.Core.Path.{_≡_, refl, sym}
-use Prim.Native.Nat.{ℕ, _<_, _*_, _^_}
+use Prim.Native.Nat.{ℕ, _+_, _-_, _<_, _*_, _^_}
 use native.Mathlib.Omega.{arith}
 use mathlib.Core.List.{[], _∷_, List}
 use lib.Dec.{ltb→lt, nltb→le}
@@ -18,9 +19,8 @@ use prog.Wp.{Heap, Calls, Loops, Env, WpFn}
 use ghost.Atoms.{Atoms}
 use contract.Monad.{Fun}
 use contract.Running.{givenOf, tables, tablesOf}
-use types.Kit.{Given, ‵, Item, atRet, _⊛_, ⋆, _$_, _∵_, !, qed, by, move, keep, drop, split, join, rewrite, fsplit, fjoin, suffices, frame, done}
-use types.Run.{look, look-raw, init, forget, stop, hop, fld, from, load, lit, of-opd, bin, assigns, first, skips, branches, exec, returns-within, returns, enter, alloc1, alloc0, params1, pass1, pass0, free1, free0}
-use types.Part.{whole, sub, look-in}
+use types.Kit.{Given, ‵, atRet, _⊛_, ⋆, _$_, _∵_, !, qed, by, move, keep, drop, split, join, rewrite, fsplit, fjoin, suffices, frame, done}
+use types.Run.{look, look-raw, init, stop, hop, from, load, lit, of-opd, bin, first, skips, branches, exec, returns-within, returns, enter, alloc1, alloc0, params1, pass1, pass0, free0}
 use sound.WpLaws.{WpFn-mono}
 use denote.RattleType.{owns}
 use denote.Laws.{Is}
@@ -39,6 +39,7 @@ use denote.Triple.Walked.{says, Stays, stay-none-slice, stay-none, walkOf, goes-
 use denote.Exit.{yes}
 use Rattle.client.specs.declared.Client.{Client}
 use Rattle.associations.proofs.Row.{R, size, val, vals, tells, makes, shown, copies, typed}
+use Rattle.associations.proofs.Steps.{local, field-of, sets, ends, ends-bare}
 use Rattle.client.proofs.Client.Laws as T′
 use Rattle.associations.proofs.read.Key.{name as #read}
 use Rattle.associations.proofs.read as read
@@ -49,7 +50,12 @@ use Rattle.associations.proofs.read.Code.Mir as body
 abbrev stayed : Stays (read.ended .signature .params) (read.ended .kept)
 stayed = (stay-none-slice (0 ∷ []) tt (plain (λ _. R)) yes, (stay-none (λ _. usize) yes, (stay-none (λ _. R) yes, tt)))
 
-module _ {M : Type 1} (𝓤 : URA M) (H : Heap 𝓤) (A : Atoms 𝓤) (W : Given 𝓤 H A) (mem : Memory → SProp 𝓤) (run : Routine → Fun 𝓤) (κ : Lft) (q : Share) (b o : ℕ) (γ : GName) (ys : List Client) (i : ℕ) (c : Client) (i-fits : i < 2 ^ 64) (c-is : Is R c (val c ∷ [])) (room : Room R (length ys)) where
+-- where the local _i stands in the context
+abbrev slot : ℕ → ℕ
+slot i = 16 - 2 * i
+
+module _ {M : Type 1} (𝓤 : URA M) (H : Heap 𝓤) (A : Atoms 𝓤) (W : Given 𝓤 H A) (mem : Memory → SProp 𝓤) (run : Routine → Fun 𝓤)
+    (κ : Lft) (q : Share) (b o : ℕ) (γ : GName) (ys : List Client) (i : ℕ) (c : Client) (i-fits : i < 2 ^ 64) (c-is : Is R c (val c ∷ [])) (room : Room R (length ys)) where
   abbrev Arg : Type 0
   Arg = RefT (List Client) × (ℕ × (Client × Unit {0}))
 
@@ -84,31 +90,34 @@ module _ {M : Type 1} (𝓤 : URA M) (H : Heap 𝓤) (A : Atoms 𝓤) (W : Given
     walk =
         qed W ((‵ (flft κ q) ⊛ ‵ ftrue) ∷ ‵ (owns (ShrSlice (named 0) κ R ∷ usize ∷ R ∷ []) x at) ∷ []) ∵ enter ! C Λ code.function (s ∷ vint w64 i ∷ val c ∷ []) _ $
         alloc1 ! (λ l₀. alloc1 ! (λ l₁. alloc1 ! (λ l₂. alloc1 ! (λ l₃. alloc1 ! (λ l₄. alloc1 ! (λ l₅. alloc1 ! (λ l₆. alloc1 ! (λ l₇. alloc1 ! (λ l₈. alloc0 ! $ params1 ! $
-        pass1 ! (init ! 14 refl (tt, (tt, (record { fits = room .0 }, tt)))) $ pass1 ! (init ! 12 refl (tt, record { fits = i-fits })) $ pass1 ! (init ! 10 refl (typed 𝓤 H A W c _ c-is)) $ pass0 ! $
-        -- [_8; …; _7; …; _6; …; _5; …; _4; …; _3; …; _2; …; _1; …; room for _0; …; the token; what list, at and other own]
-        assigns ! (of-opd ! (load ! (from ! (fld ! refl (stop !))) (look-in ! 14 (sub ! 1 refl (whole !))))) (from ! (stop !)) (init ! 8 refl (tt, record { fits = room .0 })) $
-        assigns ! (bin ! (load ! (from ! (stop !)) (look ! 12 refl)) (load ! (from ! (stop !)) (look ! 8 refl)) tt) (from ! (stop !)) (init ! 6 refl (tt, tt)) $
-        first ! $ branches ! (load ! (from ! (stop !)) (look ! 6 refl))
+        pass1 ! (init ! (slot 1) refl (tt, (tt, (record { fits = room .0 }, tt)))) $ pass1 ! (init ! (slot 2) refl (tt, record { fits = i-fits })) $
+        pass1 ! (init ! (slot 3) refl (typed 𝓤 H A W c _ c-is)) $ pass0 ! $
+        -- [_8; …; _7; …; and so on to _1; …; room for _0; …; the token; what list, at and other own]
+        sets ! (slot 4) (of-opd ! (field-of ! (slot 1) 1 refl refl refl)) refl (tt, record { fits = room .0 }) $
+        sets ! (slot 5) (bin ! (local ! (slot 2) refl) (local ! (slot 4) refl) tt) refl (tt, tt) $
+        first ! $ branches ! (local ! (slot 5) refl)
         (λ test.
         let l : i < length ys = ltb→lt i (length ys) test in
         let fits : i * size < 2 ^ 64 = omega (arith, room .1, l) in
-        assigns ! (bin ! (load ! (from ! (stop !)) (look ! 12 refl)) (lit ! tt) (record { fits = fits })) (from ! (stop !)) (init ! 4 refl (tt, record { fits = fits })) $
-        assigns ! (bin ! (load ! (from ! (fld ! refl (stop !))) (look-in ! 14 (sub ! 0 refl (whole !)))) (load ! (from ! (stop !)) (look ! 4 refl)) tt) (from ! (stop !)) (init ! 2 refl (tt, tt)) $
-        rewrite ! 2 (λ (p : ℕ). ‵ (fat fullShare tyPtr l₇ 0 (vptr b p))) (sym (place-is size o i)) refl $
+        sets ! (slot 6) (bin ! (local ! (slot 2) refl) (lit ! tt) (record { fits = fits })) refl (tt, record { fits = fits }) $
+        sets ! (slot 7) (bin ! (field-of ! (slot 1) 0 refl refl refl) (local ! (slot 6) refl) tt) refl (tt, tt) $
+        rewrite ! (slot 7) (λ (p : ℕ). ‵ (fat fullShare tyPtr l₇ 0 (vptr b p))) (sym (place-is size o i)) refl $
         move ! (19 ∷ []) $ fsplit ! $ move ! (1 ∷ []) $ drop ! $ fsplit ! $ move ! (1 ∷ []) $ fsplit ! $ move ! (21 ∷ []) $ split ! $ move ! (3 ∷ 0 ∷ []) $
         looks-slice ! tt R (Is R) (shown 𝓤 H A) vals tells (copies 𝓤 H A W) ys b o (λ q′. elem-out ! R (Is R) (shown 𝓤 H A) vals tells q′ ys i c b o l (λ g.
-        -- [list[at]; what it owns; the others; what shuts; the fractured borrow; true; res; list's fact; _8; …; _7; …; _6; …; _5; …; _4; …; _3; …; _2; …; _1; …; room for _0; …]
-        assigns ! (of-opd ! (load ! (from ! (hop ! (look ! 10 refl) (stop !))) (look-raw ! 0 refl))) (from ! (stop !)) (init ! 8 refl (typed 𝓤 H A W elem _ g)) $
-        assigns ! (of-opd ! (load ! (from ! (stop !)) (look ! 8 refl))) (from ! (stop !)) (init ! 24 refl (typed 𝓤 H A W elem _ g)) $
+        -- [list[at]; what it owns; the others; what shuts; the fractured borrow; true; res; list's fact; _8; …]
+        sets ! (slot 8 + 8) (of-opd ! (load ! (from ! (hop ! (look ! (slot 7 + 8) refl) (stop !))) (look-raw ! 0 refl))) refl (typed 𝓤 H A W elem _ g) $
+        sets ! (slot 0 + 8) (of-opd ! (local ! (slot 8 + 8) refl)) refl (typed 𝓤 H A W elem _ g) $
         elem-back ! R q′ ys i c (val elem ∷ []) b o l $ shuts-slice ! tt R q′ ys b o $
         -- [the token; the fractured borrow; true; res; list's fact; _8; …]
-        returns-within ! Post refl (look ! 21 refl) $ forget ! 5 refl $ forget ! 7 refl $ forget ! 9 refl $ forget ! 11 refl $ forget ! 13 refl $ forget ! 15 refl $ forget ! 17 refl $ forget ! 19 refl $ forget ! 21 refl $
-        move ! (21 ∷ 22 ∷ []) $ free1 ! $ move ! (19 ∷ 20 ∷ []) $ free1 ! $ move ! (17 ∷ 18 ∷ []) $ free1 ! $ move ! (15 ∷ 16 ∷ []) $ free1 ! $ move ! (13 ∷ 14 ∷ []) $ free1 ! $ move ! (11 ∷ 12 ∷ []) $ free1 ! $ move ! (9 ∷ 10 ∷ []) $ free1 ! $ move ! (7 ∷ 8 ∷ []) $ free1 ! $ move ! (5 ∷ 6 ∷ []) $ free1 ! $ free0 ! $
+        returns-within ! Post refl (look ! (slot 0 + 5) refl) $
+        ends ! (slot 0 + 5) refl refl $ ends ! (slot 1 + 5) refl refl $ ends ! (slot 2 + 5) refl refl $ ends ! (slot 3 + 5) refl refl $ ends ! (slot 4 + 5) refl refl $
+        ends ! (slot 5 + 5) refl refl $ ends ! (slot 6 + 5) refl refl $ ends ! (slot 7 + 5) refl refl $ ends ! (slot 8 + 5) refl refl $ free0 ! $
         move ! (3 ∷ 1 ∷ []) $ fjoin ! $ move ! (3 ∷ 0 ∷ []) $ fjoin ! $ keep ! (1 ∷ 0 ∷ []) $ by ! (exits elem g refl))))
         (λ test. skips ! $ exec ! C Λ (En l₀ l₁ l₂ l₃ l₄ l₅ l₆ l₇ l₈) body.t-4 (atRet (En l₀ l₁ l₂ l₃ l₄ l₅ l₆ l₇ l₈) Post) $
-        assigns ! (of-opd ! (load ! (from ! (stop !)) (look ! 10 refl))) (from ! (stop !)) (init ! 16 refl (typed 𝓤 H A W c _ c-is)) $
-        returns ! (look ! 16 refl) $ forget ! 6 refl $ forget ! 8 refl $ forget ! 10 refl $ forget ! 12 refl $ forget ! 14 refl $ forget ! 16 refl $
-        move ! (16 ∷ 17 ∷ []) $ free1 ! $ move ! (14 ∷ 15 ∷ []) $ free1 ! $ move ! (12 ∷ 13 ∷ []) $ free1 ! $ move ! (10 ∷ 11 ∷ []) $ free1 ! $ move ! (8 ∷ 9 ∷ []) $ free1 ! $ move ! (6 ∷ 7 ∷ []) $ free1 ! $ move ! (4 ∷ 5 ∷ []) $ free1 ! $ move ! (2 ∷ 3 ∷ []) $ free1 ! $ free1 ! $ free0 ! $
+        sets ! (slot 0) (of-opd ! (local ! (slot 3) refl)) refl (typed 𝓤 H A W c _ c-is) $
+        returns ! (look ! (slot 0) refl) $
+        ends ! (slot 0) refl refl $ ends ! (slot 1) refl refl $ ends ! (slot 2) refl refl $ ends ! (slot 3) refl refl $ ends ! (slot 4) refl refl $
+        ends ! (slot 5) refl refl $ ends-bare ! (slot 6) refl refl $ ends-bare ! (slot 7) refl refl $ ends-bare ! (slot 8) refl refl $ free0 ! $
         split ! $ move ! (2 ∷ []) $ fsplit ! $ keep ! (2 ∷ 0 ∷ []) $ by ! (exits c c-is (sym (List·getD-eq-default ys c (nltb→le i (length ys) test))))))))))))))
       where
         En : ℕ → ℕ → ℕ → ℕ → ℕ → ℕ → ℕ → ℕ → ℕ → Env 𝓤 H

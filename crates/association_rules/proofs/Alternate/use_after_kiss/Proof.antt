@@ -1,8 +1,6 @@
 -- `association_rules::Alternate::use_after_kiss` meets its contract, with an alternate and without. Assumes nothing.
-use mathlib.Core.Path.{sym, ap, _∙_}
 use borrow.Author.Needs.{needs}
 use borrow.Author.Tests.{eq-eqb, ne-eqb}
-use Rattle.association_rules.specs.Associations.{useAfterKiss}
 use Rattle.association_rules.proofs.Alternate.use_after_kiss.Statement.{statement}
 use Rattle.association_rules.proofs.Alternate.use_after_kiss.Tie as tie
 

@@ -1,8 +1,6 @@
 -- `association_rules::Table::give_up` meets its contract. Assumes nothing.
 use mathlib.Core.Path.{sym, _∙_}
-use Rattle.client.specs.GiveUp.{gaveUp}
-use Rattle.association_rules.specs.Associations.{association}
-use Rattle.association_rules.specs.Table.{notCalled, calledEffect}
+use Rattle.association_rules.specs.Table.{notCalled}
 use Rattle.association_rules.proofs.Effects.{refused-first, passed-first}
 use Rattle.association_rules.proofs.Table.give_up.Statement.{statement}
 use Rattle.association_rules.proofs.Table.give_up.Tie as tie
