@@ -1,4 +1,5 @@
--- The two calls that a function over a lent list makes, as steps of its walk. Before and after each the token of list's lifetime stands first in the context, and what list owns second.
+-- The two calls that a function over a lent list makes, as steps of its walk. Before and after each the token of list's lifetime stands first in the context, and
+-- what list owns second.
 --     loads        `load(list)`, the list lent as `&` for the call: the result is `tableOf` of it
 --     stores       `store(list, i, c)`, the list not used again: what says its last value, `set` of it, takes the list's place
 -- Assumes `Given`, and the two functions' theorems at their keys.
@@ -66,9 +67,11 @@ module _ {M : Type 1} (𝓤 : URA M) (H : Heap 𝓤) (A : Atoms 𝓤) (W : Given
   abbrev pub to-load : ℕ → GName → Load 𝓤 H A mem run .Ghost
   to-load ν δ = (((ν ∷ [], tt), (fullShare, tt), tt, (x δ, tt), (s ∷ [], tt)), tt)
 
-  goes-load : (ν : ℕ) (δ : GName) → ent 𝓤 (⋆ 𝓤 H A (‵ (flft (ν ∷ []) fullShare) ∷ ‵ (ShrSlice (named 0) (ν ∷ []) R .own (x δ) (s ∷ [])) ∷ [])) (Load 𝓤 H A mem run .pre (to-load ν δ))
+  goes-load : (ν : ℕ) (δ : GName)
+      → ent 𝓤 (⋆ 𝓤 H A (‵ (flft (ν ∷ []) fullShare) ∷ ‵ (ShrSlice (named 0) (ν ∷ []) R .own (x δ) (s ∷ [])) ∷ [])) (Load 𝓤 H A mem run .pre (to-load ν δ))
   goes-load ν δ =
-      qed W (‵ (flft (ν ∷ []) fullShare) ∷ ‵ (ShrSlice (named 0) (ν ∷ []) R .own (x δ) (s ∷ [])) ∷ []) ∵ nothing ! $ move ! (2 ∷ 0 ∷ []) $ fjoin ! $ nothing ! $ move ! (2 ∷ 0 ∷ []) $ join ! $ join ! $ frame ! $ done !
+      qed W (‵ (flft (ν ∷ []) fullShare) ∷ ‵ (ShrSlice (named 0) (ν ∷ []) R .own (x δ) (s ∷ [])) ∷ []) ∵ nothing ! $ move ! (2 ∷ 0 ∷ []) $ fjoin ! $ nothing ! $
+      move ! (2 ∷ 0 ∷ []) $ join ! $ join ! $ frame ! $ done !
 
   load-said : (ν : ℕ) (δ : GName) (t : Table) → ent 𝓤 (ensured 𝓤 H A load.ended (load.clauses 𝓤 H A mem run) (ν ∷ [], tt) (x δ, tt) tt t) (fact 𝓤 (t ≡ tableOf ys))
   load-said ν δ t = exE 𝓤 _ (λ ws. snd∗ 𝓤 (sem 𝓤 H A (lasts load.ended (ν ∷ [], tt) (x δ, tt) ws)) (fact 𝓤 (t ≡ tableOf ys)))
@@ -76,9 +79,11 @@ module _ {M : Type 1} (𝓤 : URA M) (H : Heap 𝓤) (A : Atoms 𝓤) (W : Given
   abbrev pub to-store : ℕ → Client → Val → Store 𝓤 H A mem run .Ghost
   to-store i c v = (((κ, tt), (q, tt), tt, (x γ, (i, (c, tt))), (s ∷ [], (vint w64 i ∷ [], (v ∷ [], tt)))), tt)
 
-  goes-store : (i : ℕ) (c : Client) (v : Val) → i < 2 ^ 64 → Is R c (v ∷ []) → ent 𝓤 (⋆ 𝓤 H A (‵ (flft κ q) ∷ ‵ Own ∷ [])) (Store 𝓤 H A mem run .pre (to-store i c v))
+  goes-store : (i : ℕ) (c : Client) (v : Val) → i < 2 ^ 64 → Is R c (v ∷ [])
+      → ent 𝓤 (⋆ 𝓤 H A (‵ (flft κ q) ∷ ‵ Own ∷ [])) (Store 𝓤 H A mem run .pre (to-store i c v))
   goes-store i c v i-fits c-is =
-      qed W (‵ (flft κ q) ∷ ‵ Own ∷ []) ∵ nothing ! $ owned ! R (Is R) (makes 𝓤 H A) c _ c-is $ fjoin ! $ owned ! usize (Is usize) (uint-makes 𝓤 H A W w64) i _ (refl, i-fits) $ fjoin ! $
+      qed W (‵ (flft κ q) ∷ ‵ Own ∷ []) ∵ nothing ! $ owned ! R (Is R) (makes 𝓤 H A) c _ c-is $ fjoin ! $
+      owned ! usize (Is usize) (uint-makes 𝓤 H A W w64) i _ (refl, i-fits) $ fjoin ! $
       move ! (2 ∷ 0 ∷ []) $ fjoin ! $ nothing ! $ move ! (2 ∷ 0 ∷ []) $ join ! $ join ! $ frame ! $ done !
 
   module _ (C : Calls 𝓤 H) (Λ : Loops 𝓤 H) (fm : FmC 𝓤 H (W .laws) C) {Γ : List (Item 𝓤)} {E : Env 𝓤 H} {xs : List Operand} {d : Place} {rest : Body} {p : Post 𝓤 H} where
@@ -88,14 +93,17 @@ module _ {M : Type 1} (𝓤 : URA M) (H : Heap 𝓤) (A : Atoms 𝓤) (W : Given
         → Sq W (‵ (flft κ q) ∷ ‵ Own ∷ Γ) (runs C Λ E (seq (call #load xs d) rest) p)
     loads known os go =
         lft-new ! tt (λ ν. move ! (2 ∷ 1 ∷ []) $
-        use2 W (later (some (λ (δ : GName). ‵ (ShrSlice (named 0) (ν ∷ []) R .own (x δ) (s ∷ [])) ⊛ ‵ (Lent ν)))) (shares-out R κ (ν ∷ []) q γ b o ys 𝓤 H A W (named 0) (named 0)) $ await ! tt $ pick ! (λ δ. split ! $
+        use2 W (later (some (λ (δ : GName). ‵ (ShrSlice (named 0) (ν ∷ []) R .own (x δ) (s ∷ [])) ⊛ ‵ (Lent ν)))) (shares-out R κ (ν ∷ []) q γ b o ys 𝓤 H A W (named 0) (named 0)) $
+        await ! tt $ pick ! (λ δ. split ! $
         move ! (2 ∷ 0 ∷ []) $ use2 W (raw (Load 𝓤 H A mem run .pre (to-load ν δ))) (goes-load ν δ) $
         calls-at ! fm (Load 𝓤 H A mem run) known (to-load ν δ) (os ν δ) (λ w.
-        use1 W (later (some (λ (t : Table). ((‵ (flft (ν ∷ []) fullShare) ⊛ ‵ ftrue) ⊛ ‵ (B.the-row .own t (w ∷ []))) ⊛ raw (ensured 𝓤 H A load.ended (load.clauses 𝓤 H A mem run) (ν ∷ [], tt) (x δ, tt) tt t)))) (id⊢ 𝓤 _) $ await ! tt $ pick ! (λ t.
+        use1 W (later (some (λ (t : Table). ((‵ (flft (ν ∷ []) fullShare) ⊛ ‵ ftrue) ⊛ ‵ (B.the-row .own t (w ∷ []))) ⊛ raw (ensured 𝓤 H A load.ended (load.clauses 𝓤 H A mem run) (ν ∷ [], tt) (x δ, tt) tt t)))) (id⊢ 𝓤 _) $
+        await ! tt $ pick ! (λ t.
         split ! $ move ! (1 ∷ []) $ use1 W (raw (fact 𝓤 (t ≡ tableOf ys))) (load-said ν δ t) $ heard ! (t ≡ tableOf ys) (λ e.
         split ! $ move ! (1 ∷ []) $ peeks ! B.the-row (Is B.the-row) (shows 𝓤 H A B.the-row) t (w ∷ []) (λ is. drop ! $ split ! $ move ! (1 ∷ []) $ drop ! $
         -- [the call's token; what was kept; …]: the lifetime is ended, and the list comes back
-        lft-end ! tt $ use2 W (later (‵ Own ⊛ ‵ (flft κ q))) (shared-back R κ (ν ∷ []) q γ b o ys 𝓤 H A W (named 0) (named 0) room) $ await ! tt $ split ! $ move ! (1 ∷ 0 ∷ []) $
+        lft-end ! tt $ use2 W (later (‵ Own ⊛ ‵ (flft κ q))) (shared-back R κ (ν ∷ []) q γ b o ys 𝓤 H A W (named 0) (named 0) room) $ await ! tt $ split ! $
+        move ! (1 ∷ 0 ∷ []) $
         go w (subst (λ (z : Table). Is B.the-row z (w ∷ [])) e is)))))))
 
     pub stores : Triple 𝓤 (C #store) (Store 𝓤 H A mem run) → (i : ℕ) (c : Client) (v : Val) → i < 2 ^ 64 → Is R c (v ∷ [])
@@ -105,9 +113,13 @@ module _ {M : Type 1} (𝓤 : URA M) (H : Heap 𝓤) (A : Atoms 𝓤) (W : Given
     stores known i c v i-fits c-is os go =
         use2 W (raw (Store 𝓤 H A mem run .pre (to-store i c v))) (goes-store i c v i-fits c-is) $
         calls-at ! fm (Store 𝓤 H A mem run) known (to-store i c v) os (λ w.
-        use1 W (later (some (λ (r : Unit {0}). ((‵ (flft κ q) ⊛ ‵ ftrue) ⊛ ‵ (Nothing .own r (w ∷ []))) ⊛ raw (ensured 𝓤 H A store.ended (store.clauses 𝓤 H A mem run) (κ, tt) (x γ, (i, (c, tt))) tt r)))) (id⊢ 𝓤 _) $ await ! tt $ pick ! (λ r.
-        split ! $ move ! (1 ∷ []) $ use1 W (some (λ (zs : List Client × (Unit {0} × (Unit {0} × Unit {0}))). ‵ (lasts store.ended (κ, tt) (x γ, (i, (c, tt))) zs) ⊛ raw (fact 𝓤 (zs .0 ≡ set ys i c)))) (id⊢ 𝓤 _) $ pick ! (λ zs.
+        use1 W (later (some (λ (r : Unit {0}). ((‵ (flft κ q) ⊛ ‵ ftrue) ⊛ ‵ (Nothing .own r (w ∷ []))) ⊛ raw (ensured 𝓤 H A store.ended (store.clauses 𝓤 H A mem run) (κ, tt) (x γ, (i, (c, tt))) tt r)))) (id⊢ 𝓤 _) $
+        await ! tt $ pick ! (λ r.
+        split ! $ move ! (1 ∷ []) $
+        use1 W (some (λ (zs : List Client × (Unit {0} × (Unit {0} × Unit {0}))). ‵ (lasts store.ended (κ, tt) (x γ, (i, (c, tt))) zs) ⊛ raw (fact 𝓤 (zs .0 ≡ set ys i c)))) (id⊢ 𝓤 _) $
+        pick ! (λ zs.
         split ! $ move ! (1 ∷ []) $ heard ! (zs .0 ≡ set ys i c) (λ e. fsplit ! $ fsplit ! $ move ! (1 ∷ []) $ feqL ! (λ l.
         -- [the last list; true; the token and the result; …]
-        move ! (2 ∷ []) $ split ! $ move ! (1 ∷ []) $ peeks ! Nothing (Is Nothing) (shows 𝓤 H A Nothing) r (w ∷ []) (λ is. drop ! $ split ! $ move ! (1 ∷ []) $ drop ! $ move ! (2 ∷ []) $ drop ! $
+        move ! (2 ∷ []) $ split ! $ move ! (1 ∷ []) $ peeks ! Nothing (Is Nothing) (shows 𝓤 H A Nothing) r (w ∷ []) (λ is. drop ! $ split ! $ move ! (1 ∷ []) $
+        drop ! $ move ! (2 ∷ []) $ drop ! $
         go w (zs .0) is e l))))))

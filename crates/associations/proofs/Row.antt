@@ -1,6 +1,8 @@
 -- A client record as a row of memory: its type, its machine value, and the laws that the walks cite.
---     R            the type.        val, Vals    a record's machine value, and its list.        Tells    the relation tells them
---     typed        what is related has the record's MIR type.        Makes    what is related owns nothing more.        Copies    a record is Copy
+--     R            the type.        size    how many bytes it takes
+--     val, vals    a record's machine value, alone and as a list.        tells    what is related to a record is that value
+--     makes, shown what is related owns nothing more, and what is owned is related.        copies    a record is Copy
+--     typed        what is related has the record's MIR type
 -- Assumes nothing.
 use Prim.Native.Nat.{ℕ}
 use mathlib.Core.List.{[], _∷_, List}
@@ -21,7 +23,6 @@ use Rattle.client.proofs.Client.Laws as T′
 abbrev pub R : RattleType
 R = T.the-row
 
--- how many bytes a record takes
 abbrev pub size : ℕ
 size = mem R .size
 

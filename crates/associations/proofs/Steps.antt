@@ -29,7 +29,8 @@ module _ {M : Type 1} {𝓤 : URA M} {H : Heap 𝓤} {A : Atoms 𝓤} {K : Type 
       look-in t n (subst (λ (j : Item 𝓤). Part K W j q τ b (o + d) (getV vs k) (λ u. ‵ (fat q (tyStruct ν τs) b o (vstruct (setV vs k u))))) (sym e) (sub t k f (whole t)))
 
   module _ {E : Env 𝓤 H} where
-    pub local : K → (n : ℕ) {i : ℕ} {q : Share} {v : Val} → nth 𝓤 H A n Γ ≡ ‵ (fat q (spotOf 𝓤 H E i .0) (spotOf 𝓤 H E i .1) (spotOf 𝓤 H E i .2) v) → Opd K W Γ E (copy (place i [])) v
+    pub local : K → (n : ℕ) {i : ℕ} {q : Share} {v : Val} → nth 𝓤 H A n Γ ≡ ‵ (fat q (spotOf 𝓤 H E i .0) (spotOf 𝓤 H E i .1) (spotOf 𝓤 H E i .2) v)
+        → Opd K W Γ E (copy (place i [])) v
     local t n e = load t (from t (stop t)) (look t n e)
 
     pub field-of : K → (n k : ℕ) {i : ℕ} {q : Share} {ν : Sym} {τs : Tys} {b o : ℕ} {vs : Vals} {τ : Ty} {d : ℕ}
@@ -47,11 +48,13 @@ module _ {M : Type 1} {𝓤 : URA M} {H : Heap 𝓤} {A : Atoms 𝓤} {K : Type 
         (fld t f (hop t (subst (λ (v : Val). Reads K W Γ τ b (o + d) v) v-is (reads-field t n 0 e f)) (stop t)))))
 
     module _ {C : Calls 𝓤 H} {Λ : Loops 𝓤 H} {p : Post 𝓤 H} where
-      pub sets : K → (n : ℕ) {i : ℕ} {rv : RValue} {rest : Body} {v : Val} → Rv K W Γ E rv v → nth 𝓤 H A n Γ ≡ ‵ (froom (spotOf 𝓤 H E i .0) (spotOf 𝓤 H E i .1) (spotOf 𝓤 H E i .2)) → T (hasTy (spotOf 𝓤 H E i .0) v) × WT v
+      pub sets : K → (n : ℕ) {i : ℕ} {rv : RValue} {rest : Body} {v : Val} → Rv K W Γ E rv v
+          → nth 𝓤 H A n Γ ≡ ‵ (froom (spotOf 𝓤 H E i .0) (spotOf 𝓤 H E i .1) (spotOf 𝓤 H E i .2)) → T (hasTy (spotOf 𝓤 H E i .0) v) × WT v
           → Step K W (put 𝓤 H A n (‵ (fat fullShare (spotOf 𝓤 H E i .0) (spotOf 𝓤 H E i .1) (spotOf 𝓤 H E i .2) v)) Γ) (runs C Λ E rest p) Γ (runs C Λ E (seq (assign (place i []) rv) rest) p)
       sets t n r e typed = assigns t r (from t (stop t)) (init t n e typed)
 
-      pub lands-in : K → (n : ℕ) {i : ℕ} {rest : Body} {v : Val} → nth 𝓤 H A n Γ ≡ ‵ (froom (spotOf 𝓤 H E i .0) (spotOf 𝓤 H E i .1) (spotOf 𝓤 H E i .2)) → T (hasTy (spotOf 𝓤 H E i .0) v) × WT v
+      pub lands-in : K → (n : ℕ) {i : ℕ} {rest : Body} {v : Val} → nth 𝓤 H A n Γ ≡ ‵ (froom (spotOf 𝓤 H E i .0) (spotOf 𝓤 H E i .1) (spotOf 𝓤 H E i .2))
+          → T (hasTy (spotOf 𝓤 H E i .0) v) × WT v
           → Step K W (put 𝓤 H A n (‵ (fat fullShare (spotOf 𝓤 H E i .0) (spotOf 𝓤 H E i .1) (spotOf 𝓤 H E i .2) v)) Γ) (runs C Λ E rest p) Γ (lands C Λ E (place i []) v rest p)
       lands-in t n e typed = land t (from t (stop t)) (init t n e typed)
 

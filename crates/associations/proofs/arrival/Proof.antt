@@ -195,7 +195,8 @@ module _ {M : Type 1} (𝓤 : URA M) (H : Heap 𝓤) (A : Atoms 𝓤) (W : Given
         use1 W (later (some (λ (m : ArrivalEffect). ((‵ (flft κ′ q′) ⊛ ‵ ftrue) ⊛ ‵ (N.the-row .own m (w ∷ []))) ⊛ raw (ensured 𝓤 H A decide.ended (decide.clauses 𝓤 H A mem run) (κ′, tt) given tt m))))
         (id⊢ 𝓤 _) $ await ! tt $ pick ! (λ m.
         split ! $ move ! (1 ∷ []) $ use1 W (raw (fact 𝓤 (m ≡ n))) (decide-said m) $ heard ! (m ≡ n) (λ e.
-        split ! $ move ! (1 ∷ []) $ peeks ! N.the-row (Is N.the-row) (shows 𝓤 H A N.the-row) m (w ∷ []) (λ m-is. drop ! $ split ! $ move ! (1 ∷ []) $ drop ! $ move ! (2 ∷ 3 ∷ []) $
+        split ! $ move ! (1 ∷ []) $ peeks ! N.the-row (Is N.the-row) (shows 𝓤 H A N.the-row) m (w ∷ []) (λ m-is. drop ! $ split ! $ move ! (1 ∷ []) $ drop ! $
+        move ! (2 ∷ 3 ∷ []) $
         let n-is : Is N.the-row n (w ∷ []) = subst (λ (z : ArrivalEffect). Is N.the-row z (w ∷ [])) e m-is in
         let fields = LL.owed N.the-type N′.the-laws n _ n-is in
         lands-in ! (slot 6) refl (LL.lawful N.the-type N′.the-laws 𝓤 H A W .typed n _ n-is .0) $
@@ -223,12 +224,7 @@ arrival-spec 𝓤 H 𝓜 𝓖 𝓡 =
     let 𝓣 = tablesOf 𝓤 H 𝓜 (tables 𝓤 H 𝓜 𝓡 code.env) in
     entered 𝓤 H (tripleOf 𝓤 H A arrival.signature (arrival.spec 𝓤 H A mem run)) (𝓣 .C) (𝓣 .Λ) #arrival code.function (code.unfolded 𝓤 H 𝓜 𝓡)
     (walk-meets 𝓤 H A arrival.ended stayed W
-    (goes-gave-slice 𝓤 H A W 2 0 tt (plain (λ _. R)),
-    (goes-none 𝓤 H A W 2 (λ _. usize) yes (λ κs x f. refl),
-    (goes-none 𝓤 H A W 2 (λ _. usize) yes (λ κs x f. refl),
-    (goes-none-slice 𝓤 H A W 2 (1 ∷ []) tt (plain (λ _. u8)) yes,
-    (goes-none 𝓤 H A W 2 (λ _. S.the-row) yes (λ κs x f. refl),
-    tt)))))
+    (goes-gave-slice 𝓤 H A W 2 0 tt (plain (λ _. R)), (goes-none 𝓤 H A W 2 (λ _. usize) yes (λ κs x f. refl), (goes-none 𝓤 H A W 2 (λ _. usize) yes (λ κs x f. refl), (goes-none-slice 𝓤 H A W 2 (1 ∷ []) tt (plain (λ _. u8)) yes, (goes-none 𝓤 H A W 2 (λ _. S.the-row) yes (λ κs x f. refl), tt)))))
     (arrival.clauses 𝓤 H A mem run) (WpFn 𝓤 H (𝓣 .C) (𝓣 .Λ) code.function) (WpFn-mono 𝓤 H (W .laws) 𝓣 code.function)
     (walked 𝓤 H A arrival.ended stayed (arrival.clauses 𝓤 H A mem run) (WpFn 𝓤 H (𝓣 .C) (𝓣 .Λ) code.function)
     (λ κs. (slice-vals, (uint-vals w64, (uint-vals w64, (slice-vals, (LL.vals S.the-type S′.the-laws, tt))))))

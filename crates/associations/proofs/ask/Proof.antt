@@ -213,7 +213,8 @@ module _ {M : Type 1} (𝓤 : URA M) (H : Heap 𝓤) (A : Atoms 𝓤) (W : Given
         use1 W (later (some (λ (m : CallEffect). ((‵ (flft κ′ q′) ⊛ ‵ ftrue) ⊛ ‵ (N.the-row .own m (w ∷ []))) ⊛ raw (ensured 𝓤 H A decide.ended (decide.clauses 𝓤 H A mem run) (κ′, tt) given tt m))))
         (id⊢ 𝓤 _) $ await ! tt $ pick ! (λ m.
         split ! $ move ! (1 ∷ []) $
-        use1 W (some (λ (cs : Lasts). ‵ (lasts decide.ended (κ′, tt) given cs) ⊛ (raw (fact 𝓤 (m ≡ n)) ⊛ raw (fact 𝓤 (cs .1 .1 .1 .0 ≡ left))))) (id⊢ 𝓤 _) $ pick ! (λ cs.
+        use1 W (some (λ (cs : Lasts). ‵ (lasts decide.ended (κ′, tt) given cs) ⊛ (raw (fact 𝓤 (m ≡ n)) ⊛ raw (fact 𝓤 (cs .1 .1 .1 .0 ≡ left))))) (id⊢ 𝓤 _) $
+        pick ! (λ cs.
         split ! $ move ! (1 ∷ []) $ split ! $ heard ! (m ≡ n) (λ e. heard ! (cs .1 .1 .1 .0 ≡ left) (λ e′.
         fsplit ! $ drop ! $ fsplit ! $ drop ! $ fsplit ! $ drop ! $ fsplit ! $ move ! (1 ∷ []) $ drop ! $ fsplit ! $ move ! (1 ∷ []) $ feqL ! (λ l′.
         -- [buffer's last list; buffer's token and the result; list's token; what list owns; _16; …]
@@ -247,14 +248,7 @@ ask-spec 𝓤 H 𝓜 𝓖 𝓡 =
     let 𝓣 = tablesOf 𝓤 H 𝓜 (tables 𝓤 H 𝓜 𝓡 code.env) in
     entered 𝓤 H (tripleOf 𝓤 H A ask.signature (ask.spec 𝓤 H A mem run)) (𝓣 .C) (𝓣 .Λ) #ask code.function (code.unfolded 𝓤 H 𝓜 𝓡)
     (walk-meets 𝓤 H A ask.ended stayed W
-    (goes-gave-slice 𝓤 H A W 2 0 tt (plain (λ _. R)),
-    (goes-none 𝓤 H A W 2 (λ _. usize) yes (λ κs x f. refl),
-    (goes-none 𝓤 H A W 2 (λ _. usize) yes (λ κs x f. refl),
-    (goes-gave-slice 𝓤 H A W 2 1 tt (plain (λ _. u8)),
-    (goes-none 𝓤 H A W 2 (λ _. u8) yes (λ κs x f. refl),
-    (goes-none 𝓤 H A W 2 (λ _. S.the-row) yes (λ κs x f. refl),
-    (goes-none 𝓤 H A W 2 (λ _. u64) yes (λ κs x f. refl),
-    tt)))))))
+    (goes-gave-slice 𝓤 H A W 2 0 tt (plain (λ _. R)), (goes-none 𝓤 H A W 2 (λ _. usize) yes (λ κs x f. refl), (goes-none 𝓤 H A W 2 (λ _. usize) yes (λ κs x f. refl), (goes-gave-slice 𝓤 H A W 2 1 tt (plain (λ _. u8)), (goes-none 𝓤 H A W 2 (λ _. u8) yes (λ κs x f. refl), (goes-none 𝓤 H A W 2 (λ _. S.the-row) yes (λ κs x f. refl), (goes-none 𝓤 H A W 2 (λ _. u64) yes (λ κs x f. refl), tt)))))))
     (ask.clauses 𝓤 H A mem run) (WpFn 𝓤 H (𝓣 .C) (𝓣 .Λ) code.function) (WpFn-mono 𝓤 H (W .laws) 𝓣 code.function)
     (walked 𝓤 H A ask.ended stayed (ask.clauses 𝓤 H A mem run) (WpFn 𝓤 H (𝓣 .C) (𝓣 .Λ) code.function)
     (λ κs. (slice-vals, (uint-vals w64, (uint-vals w64, (slice-vals, (uint-vals w8, (LL.vals S.the-type S′.the-laws, (uint-vals w64, tt))))))))

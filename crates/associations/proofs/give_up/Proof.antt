@@ -207,11 +207,7 @@ give-up-spec 𝓤 H 𝓜 𝓖 𝓡 =
     let 𝓣 = tablesOf 𝓤 H 𝓜 (tables 𝓤 H 𝓜 𝓡 code.env) in
     entered 𝓤 H (tripleOf 𝓤 H A give-up.signature (give-up.spec 𝓤 H A mem run)) (𝓣 .C) (𝓣 .Λ) #give-up code.function (code.unfolded 𝓤 H 𝓜 𝓡)
     (walk-meets 𝓤 H A give-up.ended stayed W
-    (goes-gave-slice 𝓤 H A W 1 0 tt (plain (λ _. R)),
-    (goes-none 𝓤 H A W 1 (λ _. usize) yes (λ κs x f. refl),
-    (goes-none 𝓤 H A W 1 (λ _. usize) yes (λ κs x f. refl),
-    (goes-none 𝓤 H A W 1 (λ _. u64) yes (λ κs x f. refl),
-    tt))))
+    (goes-gave-slice 𝓤 H A W 1 0 tt (plain (λ _. R)), (goes-none 𝓤 H A W 1 (λ _. usize) yes (λ κs x f. refl), (goes-none 𝓤 H A W 1 (λ _. usize) yes (λ κs x f. refl), (goes-none 𝓤 H A W 1 (λ _. u64) yes (λ κs x f. refl), tt))))
     (give-up.clauses 𝓤 H A mem run) (WpFn 𝓤 H (𝓣 .C) (𝓣 .Λ) code.function) (WpFn-mono 𝓤 H (W .laws) 𝓣 code.function)
     (walked 𝓤 H A give-up.ended stayed (give-up.clauses 𝓤 H A mem run) (WpFn 𝓤 H (𝓣 .C) (𝓣 .Λ) code.function)
     (λ κs. (slice-vals, (uint-vals w64, (uint-vals w64, (uint-vals w64, tt)))))

@@ -1,4 +1,5 @@
--- `associations::load` meets its contract: a walk of its MIR, by hand. It calls `Client::fresh`, then `read` at each of eight places (`reads`), and `Table::new` on what they
+-- `associations::load` meets its contract: a walk of its MIR, by hand. It calls `Client::fresh`, then `read` at each of eight places (`reads`), and `Table::new` on
+-- what they
 -- return. A `&[Client]` is Copy: what it owns is had twice for each call, and one copy is kept for the exit.
 -- Assumes nothing.
 use mathlib.Core.Path.{_≡_, refl, ap, subst, subst⁻¹}
@@ -107,7 +108,8 @@ module _ {M : Type 1} (𝓤 : URA M) (H : Heap 𝓤) (A : Atoms 𝓤) (W : Given
   exits : (t : Table) (u : Val) → t ≡ tableOf ys → ent 𝓤 (⋆ 𝓤 H A (‵ (B.the-row .own t (u ∷ [])) ∷ ‵ (flft κ q) ∷ ‵ Own ∷ [])) (Post u)
   exits t u e =
       qed W (‵ (B.the-row .own t (u ∷ [])) ∷ ‵ (flft κ q) ∷ ‵ Own ∷ []) ∵
-      suffices ! _ (ends-at 𝓤 H A load.ended stayed (load.clauses 𝓤 H A mem run) W (((κ, tt), (q, tt), tt, (x, tt), (s ∷ [], tt)), tt) u t (tt, tt) (tt, tt)) $ says ! e $
+      suffices ! _ (ends-at 𝓤 H A load.ended stayed (load.clauses 𝓤 H A mem run) W (((κ, tt), (q, tt), tt, (x, tt), (s ∷ [], tt)), tt) u t (tt, tt) (tt, tt)) $
+      says ! e $
       nothing ! $ move ! (2 ∷ 0 ∷ []) $ join ! $ frame ! $ nothing ! $ move ! (2 ∷ 0 ∷ []) $ fjoin ! $ frame ! $ done !
 
   -- `fresh`: what it asks, and what is known of its result
@@ -187,7 +189,8 @@ module _ {M : Type 1} (𝓤 : URA M) (H : Heap 𝓤) (A : Atoms 𝓤) (W : Given
     walk =
         qed W ((‵ (flft κ q) ⊛ ‵ ftrue) ∷ ‵ (owns (ShrSlice (named 0) κ R ∷ []) (x, tt) (s ∷ [], tt)) ∷ []) ∵ enter ! C Λ code.function (s ∷ []) _ $
         alloc1 ! (λ l₀. alloc1 ! (λ l₁. alloc1 ! (λ l₂. alloc1 ! (λ l₃. alloc1 ! (λ l₄. alloc1 ! (λ l₅. alloc1 ! (λ l₆. alloc1 ! (λ l₇. alloc1 ! (λ l₈.
-        alloc1 ! (λ l₉. alloc1 ! (λ l₁₀. alloc1 ! (λ l₁₁. alloc0 ! $ params1 ! $ pass1 ! (init ! (slot 1 - 4) refl (tt, (tt, (record { fits = n-fits }, tt)))) $ pass0 ! $
+        alloc1 ! (λ l₉. alloc1 ! (λ l₁₀. alloc1 ! (λ l₁₁. alloc0 ! $ params1 ! $ pass1 ! (init ! (slot 1 - 4) refl (tt, (tt, (record { fits = n-fits }, tt)))) $
+        pass0 ! $
         move ! (25 ∷ []) $ fsplit ! $ move ! (26 ∷ []) $ split ! $ move ! (0 ∷ 2 ∷ []) $
         -- [the token; what list owns; true; true; _11; …; _10; …; and so on to _1; …; room for _0; …]
         -- `Client::fresh`

@@ -1,4 +1,5 @@
--- `associations::read` meets its contract: a walk of its MIR, by hand. Within the list the place of `list[at]` is computed, the slice is looked into, the record is taken
+-- `associations::read` meets its contract: a walk of its MIR, by hand. Within the list the place of `list[at]` is computed, the slice is looked into, the record is
+-- taken
 -- out of the row, read whole, and put back. Past the end the third argument is returned.
 -- Assumes nothing.
 use mathlib.Core.Path.{_≡_, refl, sym}
@@ -80,16 +81,19 @@ module _ {M : Type 1} (𝓤 : URA M) (H : Heap 𝓤) (A : Atoms 𝓤) (W : Given
   exits : (d : Client) → Is R d (val d ∷ []) → d ≡ elem → ent 𝓤 (⋆ 𝓤 H A (‵ (flft κ q) ∷ ‵ Own ∷ [])) (Post (val d))
   exits d d-is e =
       qed W (‵ (flft κ q) ∷ ‵ Own ∷ []) ∵
-      suffices ! _ (ends-at 𝓤 H A read.ended stayed (read.clauses 𝓤 H A mem run) W (((κ, tt), (q, tt), tt, x, at), tt) (val d) d (tt, (tt, (tt, tt))) (tt, (tt, (tt, tt)))) $ says ! e $
+      suffices ! _ (ends-at 𝓤 H A read.ended stayed (read.clauses 𝓤 H A mem run) W (((κ, tt), (q, tt), tt, x, at), tt) (val d) d (tt, (tt, (tt, tt))) (tt, (tt, (tt, tt)))) $
+      says ! e $
       nothing ! $ move ! (1 ∷ 0 ∷ []) $ join ! $ frame ! $
-      nothing ! $ owned ! R (Is R) (makes 𝓤 H A) c _ c-is $ fjoin ! $ owned ! usize (Is usize) (uint-makes 𝓤 H A W w64) i _ (refl, i-fits) $ fjoin ! $ move ! (1 ∷ 0 ∷ []) $ fjoin ! $ frame ! $
+      nothing ! $ owned ! R (Is R) (makes 𝓤 H A) c _ c-is $ fjoin ! $ owned ! usize (Is usize) (uint-makes 𝓤 H A W w64) i _ (refl, i-fits) $ fjoin ! $
+      move ! (1 ∷ 0 ∷ []) $ fjoin ! $ frame ! $
       owned ! R (Is R) (makes 𝓤 H A) d _ d-is $ done !
 
   module _ (C : Calls 𝓤 H) (Λ : Loops 𝓤 H) where
     walk : ent 𝓤 (onEntry 𝓤 H A read.signature (κ, tt) (q, tt) x at) (WpFn 𝓤 H C Λ code.function (s ∷ vint w64 i ∷ val c ∷ []) Post)
     walk =
         qed W ((‵ (flft κ q) ⊛ ‵ ftrue) ∷ ‵ (owns (ShrSlice (named 0) κ R ∷ usize ∷ R ∷ []) x at) ∷ []) ∵ enter ! C Λ code.function (s ∷ vint w64 i ∷ val c ∷ []) _ $
-        alloc1 ! (λ l₀. alloc1 ! (λ l₁. alloc1 ! (λ l₂. alloc1 ! (λ l₃. alloc1 ! (λ l₄. alloc1 ! (λ l₅. alloc1 ! (λ l₆. alloc1 ! (λ l₇. alloc1 ! (λ l₈. alloc0 ! $ params1 ! $
+        alloc1 ! (λ l₀. alloc1 ! (λ l₁. alloc1 ! (λ l₂. alloc1 ! (λ l₃. alloc1 ! (λ l₄. alloc1 ! (λ l₅. alloc1 ! (λ l₆. alloc1 ! (λ l₇. alloc1 ! (λ l₈. alloc0 ! $
+        params1 ! $
         pass1 ! (init ! (slot 1) refl (tt, (tt, (record { fits = room .0 }, tt)))) $ pass1 ! (init ! (slot 2) refl (tt, record { fits = i-fits })) $
         pass1 ! (init ! (slot 3) refl (typed 𝓤 H A W c _ c-is)) $ pass0 ! $
         -- [_8; …; _7; …; and so on to _1; …; room for _0; …; the token; what list, at and other own]
@@ -110,7 +114,8 @@ module _ {M : Type 1} (𝓤 : URA M) (H : Heap 𝓤) (A : Atoms 𝓤) (W : Given
         elem-back ! R q′ ys i c (val elem ∷ []) b o l $ shuts-slice ! tt R q′ ys b o $
         -- [the token; the fractured borrow; true; res; list's fact; _8; …]
         returns-within ! Post refl (look ! (slot 0 + 5) refl) $
-        ends ! (slot 0 + 5) refl refl $ ends ! (slot 1 + 5) refl refl $ ends ! (slot 2 + 5) refl refl $ ends ! (slot 3 + 5) refl refl $ ends ! (slot 4 + 5) refl refl $
+        ends ! (slot 0 + 5) refl refl $ ends ! (slot 1 + 5) refl refl $ ends ! (slot 2 + 5) refl refl $ ends ! (slot 3 + 5) refl refl $
+        ends ! (slot 4 + 5) refl refl $
         ends ! (slot 5 + 5) refl refl $ ends ! (slot 6 + 5) refl refl $ ends ! (slot 7 + 5) refl refl $ ends ! (slot 8 + 5) refl refl $ free0 ! $
         move ! (3 ∷ 1 ∷ []) $ fjoin ! $ move ! (3 ∷ 0 ∷ []) $ fjoin ! $ keep ! (1 ∷ 0 ∷ []) $ by ! (exits elem g refl))))
         (λ test. skips ! $ exec ! C Λ (En l₀ l₁ l₂ l₃ l₄ l₅ l₆ l₇ l₈) body.t-4 (atRet (En l₀ l₁ l₂ l₃ l₄ l₅ l₆ l₇ l₈) Post) $

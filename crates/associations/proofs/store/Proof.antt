@@ -1,4 +1,5 @@
--- `associations::store` meets its contract: a walk of its MIR, by hand. Within the list the borrow is opened, one record is taken out of the row and stored to, the new
+-- `associations::store` meets its contract: a walk of its MIR, by hand. Within the list the borrow is opened, one record is taken out of the row and stored to, the
+-- new
 -- record is put in its place, and the borrow is closed at the list with that record in it. Past the end nothing is done.
 -- Assumes nothing.
 use mathlib.Core.Path.{_≡_, refl, sym, ap, subst}
@@ -84,10 +85,12 @@ module _ {M : Type 1} (𝓤 : URA M) (H : Heap 𝓤) (A : Atoms 𝓤) (W : Given
   exits : (zs : List Client) → zs ≡ set ys i c → length zs ≡ length ys → ent 𝓤 (⋆ 𝓤 H A (Had zs)) (Post vunit)
   exits zs e l =
       qed W (Had zs) ∵
-      suffices ! _ (ends-at 𝓤 H A store.ended stayed (store.clauses 𝓤 H A mem run) W (((κ, tt), (q, tt), tt, a, at), tt) vunit tt (zs, (tt, (tt, tt))) (l, (tt, (tt, tt)))) $ says ! e $
+      suffices ! _ (ends-at 𝓤 H A store.ended stayed (store.clauses 𝓤 H A mem run) W (((κ, tt), (q, tt), tt, a, at), tt) vunit tt (zs, (tt, (tt, tt))) (l, (tt, (tt, tt)))) $
+      says ! e $
       nothing ! $ move ! (3 ∷ 0 ∷ []) $ join ! $ frame ! $
       fjoin ! $ pureI ! (at-slice R (x zs) (s ∷ [])) (tt, (tt, tt)) (ap (λ (m : ℕ). sliceVal (b, o) m ∷ []) (sym l), subst (Room R) (sym l) room) $ fjoin ! $
-      nothing ! $ owned ! R (Is R) (makes 𝓤 H A) c _ c-is $ fjoin ! $ owned ! usize (Is usize) (uint-makes 𝓤 H A W w64) i _ (refl, i-fits) $ fjoin ! $ move ! (1 ∷ 0 ∷ []) $ fjoin ! $ frame ! $
+      nothing ! $ owned ! R (Is R) (makes 𝓤 H A) c _ c-is $ fjoin ! $ owned ! usize (Is usize) (uint-makes 𝓤 H A W w64) i _ (refl, i-fits) $ fjoin ! $
+      move ! (1 ∷ 0 ∷ []) $ fjoin ! $ frame ! $
       feqI ! (List Val) (vunit ∷ []) (vunit ∷ []) refl $ done !
 
   module _ (C : Calls 𝓤 H) (Λ : Loops 𝓤 H) where
