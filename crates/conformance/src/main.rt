@@ -1,17 +1,10 @@
 // Reads lines from standard input, each an operation on the proved parts, and writes one answer a line to standard output.
-mod answers;
-mod asks;
-mod input;
-mod ledgers;
-mod lent;
 mod output;
-mod packets;
-mod replies;
-mod times;
 
-use answers::Answer;
+use conformance_parts::answers::Answer;
+use conformance_parts::input::take8;
+use conformance_parts::lengths::LONGEST_LINE;
 use hex_decode::Line;
-use input::take8;
 use libc::STDIN_FILENO;
 use refusals::LINE_MALFORMED;
 
@@ -27,22 +20,22 @@ fn answer_to(line: &[u8]) -> Answer {
     let at = operation.end;
     let number = operation.value;
     match number {
-        0x01 => times::difference(line, at),
-        0x02 => times::measure(line, at),
-        0x03 => packets::read(line, at),
-        0x04 => packets::write(line, at),
-        0x05 => times::date(line, at),
-        0x06 => times::timestamp_of_date(line, at),
-        0x07 => times::precision(line, at),
-        0x08 => asks::ask(line, at),
-        0x09 => asks::arrival(line, at),
-        0x0A => asks::give_up(line, at),
-        0x0B => replies::reply(line, at),
-        0x0C => ledgers::entry(line, at),
-        0x0D => ledgers::tick(line, at),
-        0xF0 => asks::fresh(at),
-        0xF1 => times::constants(at),
-        0xF2 => times::halve(line, at),
+        0x01 => conformance_times::difference(line, at),
+        0x02 => conformance_times::measure(line, at),
+        0x03 => conformance_packets::read(line, at),
+        0x04 => conformance_packets::write(line, at),
+        0x05 => conformance_times::date(line, at),
+        0x06 => conformance_times::timestamp_of_date(line, at),
+        0x07 => conformance_times::precision(line, at),
+        0x08 => conformance_client::ask(line, at),
+        0x09 => conformance_client::arrival(line, at),
+        0x0A => conformance_client::give_up(line, at),
+        0x0B => conformance_server::reply(line, at),
+        0x0C => conformance_ledger::entry(line, at),
+        0x0D => conformance_ledger::tick(line, at),
+        0xF0 => conformance_client::fresh(at),
+        0xF1 => conformance_times::constants(at),
+        0xF2 => conformance_times::halve(line, at),
         _ => Answer::number(LINE_MALFORMED, at),
     }
 }
@@ -110,7 +103,7 @@ fn end_input(state: State, octets: &[u8], out: &mut [u8]) -> usize {
 
 fn main() {
     let mut block = io::large_buffer();
-    let mut octets = [0u8; 128];
+    let mut octets = [0u8; LONGEST_LINE];
     let mut out = io::large_buffer();
     let state = read_all(&mut block, &mut octets, &mut out);
     let end = end_input(state, &octets, &mut out);

@@ -1,10 +1,11 @@
 // Answers as lines of hexadecimal in the output. A function here answers the index after what it puts.
-use crate::answers::Answer;
+use conformance_parts::answers::Answer;
+use conformance_parts::lengths::LONGEST_ANSWER;
 use hex_encode::put_line;
 use libc::STDOUT_FILENO;
 
-// From here on the output is written out before another line: the longest answer has 203 characters.
-const NEARLY_FULL: usize = 65536 - 256;
+// From here on the output is written out before another line: two characters an octet and a line feed.
+const NEARLY_FULL: usize = 65536 - (2 * LONGEST_ANSWER + 1);
 
 // Writes out what stands before the index.
 pub(crate) fn flush(out: &[u8], at: usize) {

@@ -1,13 +1,14 @@
 // The operations of the ledger: 0C and 0D.
-use crate::answers::Answer;
-use crate::input::take8;
-use crate::input::take64;
+// Part of the test program `conformance`: run and compared with the independent program, not specified.
+use conformance_parts::answers::Answer;
+use conformance_parts::input::take8;
+use conformance_parts::input::take64;
 use ledger::EntryAnswer;
 use ledger::Ledger;
 use ledger::TickAnswer;
 use twos_complement::signed64;
 
-pub(crate) fn entry(line: &[u8], at: usize) -> Answer {
+pub fn entry(line: &[u8], at: usize) -> Answer {
     let debt = take64(line, at);
     let offset = take64(line, debt.end);
     let half = take8(line, offset.end);
@@ -31,7 +32,7 @@ fn paid(answer: TickAnswer, end: usize) -> Answer {
     }
 }
 
-pub(crate) fn tick(line: &[u8], at: usize) -> Answer {
+pub fn tick(line: &[u8], at: usize) -> Answer {
     let debt = take64(line, at);
     let limit = take64(line, debt.end);
     let ledger = Ledger {

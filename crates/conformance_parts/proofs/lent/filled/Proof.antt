@@ -1,8 +1,8 @@
--- `conformance::lent::filled` is safe and ends: the index stays within the buffer. Assumes nothing.
+-- `conformance_parts::lent::filled` is safe and ends: the index stays within the buffer. Assumes nothing.
 use Prim.Native.Nat.{_≤_, _-_}
 use borrow.Author.Needs.{needs}
-use Rattle.conformance.proofs.lent.filled.Statement.{statement}
-use Rattle.conformance.proofs.lent.filled.Tie as tie
+use Rattle.conformance_parts.proofs.lent.filled.Statement.{statement}
+use Rattle.conformance_parts.proofs.lent.filled.Tie as tie
 
 abbrev Inv-loop : tie.InvT-loop
 Inv-loop buffer₀ i₀ buffer i = i ≤ 80

@@ -1,24 +1,25 @@
 // The operations on timestamps: 01, 02, 05, 06, 07, F1 and F2.
-use crate::answers::Answer;
-use crate::input::take_timestamp;
-use crate::input::take8;
-use crate::input::take32;
-use crate::input::take64;
+// Part of the test program `conformance`: run and compared with the independent program, not specified.
 use calendar::Date;
 use calendar::DateAnswer;
 use calendar::TimestampAnswer;
+use conformance_parts::answers::Answer;
+use conformance_parts::input::take_timestamp;
+use conformance_parts::input::take8;
+use conformance_parts::input::take32;
+use conformance_parts::input::take64;
 use offset::OffsetAnswer;
 use precision::PrecisionAnswer;
 use timestamp::Timestamp;
 
-pub(crate) fn difference(line: &[u8], at: usize) -> Answer {
+pub fn difference(line: &[u8], at: usize) -> Answer {
     let x = take_timestamp(line, at);
     let y = take_timestamp(line, x.end);
     let minuend = x.value;
     Answer::number(0, y.end).with_signed64(minuend.minus(y.value))
 }
 
-pub(crate) fn measure(line: &[u8], at: usize) -> Answer {
+pub fn measure(line: &[u8], at: usize) -> Answer {
     let t1 = take_timestamp(line, at);
     let t2 = take_timestamp(line, t1.end);
     let t3 = take_timestamp(line, t2.end);
@@ -37,7 +38,7 @@ pub(crate) fn measure(line: &[u8], at: usize) -> Answer {
     }
 }
 
-pub(crate) fn date(line: &[u8], at: usize) -> Answer {
+pub fn date(line: &[u8], at: usize) -> Answer {
     let timestamp = take_timestamp(line, at);
     let end = timestamp.end;
     match calendar::date_of_timestamp(timestamp.value) {
@@ -53,7 +54,7 @@ pub(crate) fn date(line: &[u8], at: usize) -> Answer {
     }
 }
 
-pub(crate) fn timestamp_of_date(line: &[u8], at: usize) -> Answer {
+pub fn timestamp_of_date(line: &[u8], at: usize) -> Answer {
     let year = take32(line, at);
     let month = take8(line, year.end);
     let day = take8(line, month.end);
@@ -77,7 +78,7 @@ pub(crate) fn timestamp_of_date(line: &[u8], at: usize) -> Answer {
     }
 }
 
-pub(crate) fn precision(line: &[u8], at: usize) -> Answer {
+pub fn precision(line: &[u8], at: usize) -> Answer {
     let tick = take64(line, at);
     let end = tick.end;
     match precision::precision_of_tick(tick.value) {
@@ -88,14 +89,14 @@ pub(crate) fn precision(line: &[u8], at: usize) -> Answer {
     }
 }
 
-pub(crate) fn constants(at: usize) -> Answer {
+pub fn constants(at: usize) -> Answer {
     Answer::number(0, at)
         .with64(Timestamp::ZERO.0)
         .with64(Timestamp::SECOND)
         .with_signed64(Timestamp::LIMIT)
 }
 
-pub(crate) fn halve(line: &[u8], at: usize) -> Answer {
+pub fn halve(line: &[u8], at: usize) -> Answer {
     let sum = take64(line, at);
     let halves = offset::halve(twos_complement::signed64(sum.value));
     Answer::number(0, sum.end)

@@ -1,14 +1,16 @@
 // The operation of the server: 0B.
-use crate::answers::Answer;
-use crate::input::packet;
-use crate::input::packet_end;
-use crate::input::take_limited;
-use crate::input::take_timestamp;
-use crate::input::take8;
-use crate::input::take32;
-use crate::input::take64;
-use crate::lent::LONGEST_LENT;
-use crate::lent::filled;
+// Part of the test program `conformance`: run and compared with the independent program, not specified.
+use conformance_parts::answers::Answer;
+use conformance_parts::input::packet;
+use conformance_parts::input::packet_end;
+use conformance_parts::input::take_count;
+use conformance_parts::input::take_limited;
+use conformance_parts::input::take_timestamp;
+use conformance_parts::input::take8;
+use conformance_parts::input::take32;
+use conformance_parts::input::take64;
+use conformance_parts::lengths::LONGEST_LENT;
+use conformance_parts::lent::filled;
 use server::ReplyAnswer;
 use server::Settings;
 use timestamp::Timestamp;
@@ -38,14 +40,14 @@ fn take_settings(line: &[u8], at: usize) -> TakenSettings {
     }
 }
 
-pub(crate) fn reply(line: &[u8], at: usize) -> Answer {
+pub fn reply(line: &[u8], at: usize) -> Answer {
     let settings = take_settings(line, at);
     let t2 = take_timestamp(line, settings.end);
     let t3 = take_timestamp(line, t2.end);
-    let n = take_limited(line, t3.end, LONGEST_LENT);
+    let n = take_count(line, t3.end, LONGEST_LENT);
     let request = packet(line, n.end);
     let end = packet_end(line, n.end);
-    let lent = n.value as usize;
+    let lent = n.value;
     let mut buffer = filled();
     let number = match server::reply(
         settings.value,
