@@ -1,0 +1,66 @@
+// The operations for a record of a list: 0E, 0F and 10.
+// Part of the test program `conformance`: run and compared with the independent program, not specified.
+mod list;
+
+use conformance_parts::answers::Answer;
+use conformance_parts::input::packet;
+use conformance_parts::input::packet_end;
+use conformance_parts::input::take_count;
+use conformance_parts::input::take_timestamp;
+use conformance_parts::input::take8;
+use conformance_parts::input::take64;
+use conformance_parts::lengths::LONGEST_LENT;
+use conformance_parts::lent::filled;
+use conformance_records::outcomes::arrived;
+use conformance_records::outcomes::called;
+use list::take_list;
+use list::with_list;
+
+pub fn ask(line: &[u8], at: usize) -> Answer {
+    let taken = take_list(line, at);
+    let n = take_count(line, taken.end, LONGEST_LENT);
+    let version = take8(line, n.end);
+    let clock = take_timestamp(line, version.end);
+    let uptime = take64(line, clock.end);
+    let list = taken.list;
+    let lent = n.value;
+    let mut buffer = filled();
+    let effect = list.table().ask(
+        taken.number,
+        list.in_use,
+        &mut buffer[0..lent],
+        version.value,
+        clock.value,
+        uptime.value,
+    );
+    let result = effect.result;
+    let answer = result.answer;
+    let next = list.after(result.in_use, effect.at, effect.client);
+    with_list(called(answer, uptime.end), next).with_lent(buffer, lent)
+}
+
+pub fn arrival(line: &[u8], at: usize) -> Answer {
+    let taken = take_list(line, at);
+    let t4 = take_timestamp(line, taken.end);
+    let packet = packet(line, t4.end);
+    let end = packet_end(line, t4.end);
+    let list = taken.list;
+    let effect = list.table()
+        .arrival(taken.number, list.in_use, packet, t4.value);
+    let result = effect.result;
+    let answer = result.answer;
+    let next = list.after(result.in_use, effect.at, effect.client);
+    with_list(arrived(answer, end), next)
+}
+
+pub fn give_up(line: &[u8], at: usize) -> Answer {
+    let taken = take_list(line, at);
+    let uptime = take64(line, taken.end);
+    let list = taken.list;
+    let effect = list.table()
+        .give_up(taken.number, list.in_use, uptime.value);
+    let result = effect.result;
+    let answer = result.answer;
+    let next = list.after(result.in_use, effect.at, effect.client);
+    with_list(called(answer, uptime.end), next)
+}
