@@ -18,8 +18,9 @@ use Rattle.client.specs.declared.Called.{Called}
 use Rattle.client.specs.declared.Arrived.{Arrived}
 use Rattle.client.specs.Record.{fresh}
 use Rattle.client.specs.Arrival.{arrived}
-use Rattle.association_rules.specs.declared.Alternate.{Alternate}
-use Rattle.association_rules.specs.Associations.{outside, anyIllegal, association, alternateOf, alternate, exists, useAfter, listTests, listAfter, calledFor, arrivedAt, arrivedFor, listAfterArrival}
+use Rattle.in_use.specs.declared.Alternate.{Alternate}
+use Rattle.association_rules.specs.Associations.{anyIllegal, association, alternateOf, alternate, listTests, listAfter, calledFor, arrivedAt, arrivedFor, listAfterArrival}
+use Rattle.in_use.specs.InUse.{outside, exists, useAfter}
 use Rattle.association_rules.specs.Table.{eight, tableOf, tableTests, notCalled, calledEffect, callEffect, notArrived, arrivedEffect, arrivalEffect}
 use Rattle.association_rules.proofs.Effects.{few}
 use Rattle.association_rules.proofs.Records.{set-past, same-records, same-illegal}

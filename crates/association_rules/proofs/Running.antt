@@ -6,7 +6,7 @@ use mathlib.Core.List.{List}
 use native.Mathlib.Omega.{arith}
 use Rattle.client.specs.declared.Client.{Client}
 use Rattle.client.specs.Record.{isStopped}
-use Rattle.association_rules.specs.declared.Alternate.{Alternate}
+use Rattle.in_use.specs.declared.Alternate.{Alternate}
 use Rattle.association_rules.specs.Associations.{association, round, firstRunning}
 
 module _ (count : ℕ) (records : List Client) (at k : ℕ) (more : k < count) where

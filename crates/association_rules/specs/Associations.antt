@@ -1,11 +1,10 @@
 -- A gateway's list of 1 to 8 client records in order of preference, of which one is in use (docs/RULES.md, "Associations").
 use Prim.Native.Nat.{ℕ, zero, suc, _+_, _-_, _%_}
-use mathlib.Core.Bool.{Bool, true, false, cond, not, _||_}
+use mathlib.Core.Bool.{Bool, false, cond, _||_}
 use mathlib.Core.List.{List, [], _∷_}
-use lib.Dec.{eqb, ltb}
 use lib.ListN.{length, getD, set}
 use Rattle.refusals.specs.Numbers.{not-in-list, record-not-legal}
-use Rattle.ordered_tests.specs.Tests.{Tests, _if_else_, otherwise, answer, pass, kept, between}
+use Rattle.ordered_tests.specs.Tests.{Tests, _if_else_, otherwise, answer, pass, kept}
 use Rattle.timestamp.specs.declared.Timestamp.{Timestamp}
 use Rattle.reply_checks.specs.declared.ArrivalAnswer.{ArrivalAnswer}
 use Rattle.client.specs.declared.Client.{Client}
@@ -16,15 +15,12 @@ use Rattle.client.specs.Record.{fresh, isStopped, illegal}
 use Rattle.client.specs.Ask.{afterAsk, afterAskBuffer}
 use Rattle.client.specs.Arrival.{arrived}
 use Rattle.client.specs.GiveUp.{gaveUp}
-use Rattle.association_rules.specs.declared.Alternate.{Alternate}
+use Rattle.in_use.specs.declared.Alternate.{Alternate}
+use Rattle.in_use.specs.InUse.{outside, exists, useAfter}
 use Rattle.association_rules.specs.declared.ListCalled.{ListCalled}
 use Rattle.association_rules.specs.declared.ListArrived.{ListArrived}
 
 -- ---- the tests before the client's own
-
--- the list is empty or has more than eight records, or one of the two numbers is not in it
-unfoldable pub outside : (count at inUse : ℕ) → Bool
-outside count at inUse = not (between 1 8 count) || not (ltb at count) || not (ltb inUse count)
 
 unfoldable pub anyIllegal : List Client → Bool
 anyIllegal [] = false
@@ -58,22 +54,6 @@ alternateOf count list at = firstRunning count list at 1 (count - 1)
 
 abbrev pub alternate : List Client → ℕ → Alternate
 alternate list at = alternateOf (length list) list at
-
-abbrev pub exists : Alternate → Bool
-exists Alternate.None = false
-exists (Alternate.Record i) = true
-
--- ---- the number in use
-
--- after a kiss of the record in use the alternate is in use, where there is one
-abbrev pub useAfterKiss : Alternate → (at inUse : ℕ) → ℕ
-useAfterKiss Alternate.None at inUse = inUse
-useAfterKiss (Alternate.Record i) at inUse = cond (eqb at inUse) i inUse
-
-abbrev pub useAfter : ArrivalAnswer → Alternate → (at inUse : ℕ) → ℕ
-useAfter (ArrivalAnswer.Refused n) a at inUse = inUse
-useAfter (ArrivalAnswer.Accepted offset half delay) a at inUse = inUse
-useAfter (ArrivalAnswer.Kiss code row) a at inUse = useAfterKiss a at inUse
 
 -- ---- what a call answers, and the list that it leaves
 

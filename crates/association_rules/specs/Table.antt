@@ -11,10 +11,11 @@ use Rattle.client.specs.declared.Called.{Called}
 use Rattle.client.specs.declared.Arrived.{Arrived}
 use Rattle.client.specs.Record.{fresh}
 use Rattle.association_rules.specs.declared.Table.{Table}
-use Rattle.association_rules.specs.declared.Alternate.{Alternate}
+use Rattle.in_use.specs.declared.Alternate.{Alternate}
 use Rattle.association_rules.specs.declared.CallEffect.{CallEffect}
 use Rattle.association_rules.specs.declared.ArrivalEffect.{ArrivalEffect}
-use Rattle.association_rules.specs.Associations.{outside, anyIllegal, association, useAfter}
+use Rattle.association_rules.specs.Associations.{anyIllegal, association}
+use Rattle.in_use.specs.InUse.{outside, useAfter}
 
 -- ---- the table of a list
 

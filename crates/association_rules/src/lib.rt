@@ -14,12 +14,6 @@ pub struct Table {
     pub illegal: bool,
 }
 
-// The number of the alternate, if there is one.
-pub enum Alternate {
-    None,
-    Record(usize),
-}
-
 // What an ask or a give-up for one record answers, with the number in use after it.
 pub struct ListCalled {
     pub answer: CallAnswer,

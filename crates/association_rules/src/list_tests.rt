@@ -2,10 +2,11 @@
 ghost use mathlib.Core.Path.{_≡_};
 ghost use mathlib.Core.List.{_∷_, []};
 ghost use Rattle.ordered_tests.specs.Tests.{number, pass};
-ghost use Rattle.association_rules.specs.Associations.{outside, association};
+ghost use Rattle.association_rules.specs.Associations.{association};
 ghost use Rattle.association_rules.specs.Table.{tabled, tableTests};
 use crate::Table;
 use client::Client;
+use in_use::outside;
 
 impl Table {
     // A list of so many records, of which these are the first eight.
@@ -32,12 +33,6 @@ impl Table {
             illegal,
         }
     }
-}
-
-fn outside(count: usize, at: usize, in_use: usize) -> bool
-    ensures { λ r. ⌜ r ≡ outside count at in_use ⌝ }
-{
-    !((1 <= count) & (count <= 8)) | !(at < count) | !(in_use < count)
 }
 
 // The record of a number.

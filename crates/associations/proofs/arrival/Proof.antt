@@ -44,7 +44,8 @@ use Rattle.client.specs.declared.Client.{Client}
 use Rattle.client.specs.Arrival.{arrived}
 use Rattle.association_rules.specs.declared.Table.{Table}
 use Rattle.association_rules.specs.declared.ArrivalEffect.{ArrivalEffect}
-use Rattle.association_rules.specs.Associations.{association, alternateOf, exists, arrivedFor, listAfterArrival}
+use Rattle.association_rules.specs.Associations.{association, alternateOf, arrivedFor, listAfterArrival}
+use Rattle.in_use.specs.InUse.{exists}
 use Rattle.association_rules.specs.Table.{eight, tableOf, arrivalEffect}
 use Rattle.association_rules.proofs.AsList.{arrival-as-list}
 use Rattle.association_rules.proofs.Table as B

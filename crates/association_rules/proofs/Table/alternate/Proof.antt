@@ -5,7 +5,7 @@ use native.Mathlib.Omega.{arith}
 use native.Mathlib.Numerals.{add-one}
 use borrow.Author.Tests.{not-true, not-false}
 use Rattle.client.specs.Record.{isStopped}
-use Rattle.association_rules.specs.declared.Alternate.{Alternate}
+use Rattle.in_use.specs.declared.Alternate.{Alternate}
 use Rattle.association_rules.specs.Associations.{association, round, firstRunning, alternateOf}
 use Rattle.association_rules.proofs.Running.{found, passed, none}
 use Rattle.association_rules.proofs.Table.alternate.Statement.{statement}
