@@ -25,7 +25,10 @@ pub fn ask(line: &[u8], at: usize) -> Answer {
     let list = taken.list;
     let lent = n.value;
     let mut buffer = filled();
-    let effect = list.table().ask(
+    let records = list.records;
+    let next = associations_by_value::ask(
+        records,
+        list.count,
         taken.number,
         list.in_use,
         &mut buffer[0..lent],
@@ -33,9 +36,10 @@ pub fn ask(line: &[u8], at: usize) -> Answer {
         clock.value,
         uptime.value,
     );
-    let result = effect.result;
+    let result = next.result;
     let answer = result.answer;
-    let next = list.after(result.in_use, effect.at, effect.client);
+    let records = next.records;
+    let next = list.with(records, result.in_use);
     with_list(called(answer, uptime.end), next).with_lent(buffer, lent)
 }
 
@@ -45,11 +49,19 @@ pub fn arrival(line: &[u8], at: usize) -> Answer {
     let packet = packet(line, t4.end);
     let end = packet_end(line, t4.end);
     let list = taken.list;
-    let effect = list.table()
-        .arrival(taken.number, list.in_use, packet, t4.value);
-    let result = effect.result;
+    let records = list.records;
+    let next = associations_by_value::arrival(
+        records,
+        list.count,
+        taken.number,
+        list.in_use,
+        packet,
+        t4.value,
+    );
+    let result = next.result;
     let answer = result.answer;
-    let next = list.after(result.in_use, effect.at, effect.client);
+    let records = next.records;
+    let next = list.with(records, result.in_use);
     with_list(arrived(answer, end), next)
 }
 
@@ -57,10 +69,17 @@ pub fn give_up(line: &[u8], at: usize) -> Answer {
     let taken = take_list(line, at);
     let uptime = take64(line, taken.end);
     let list = taken.list;
-    let effect = list.table()
-        .give_up(taken.number, list.in_use, uptime.value);
-    let result = effect.result;
+    let records = list.records;
+    let next = associations_by_value::give_up(
+        records,
+        list.count,
+        taken.number,
+        list.in_use,
+        uptime.value,
+    );
+    let result = next.result;
     let answer = result.answer;
-    let next = list.after(result.in_use, effect.at, effect.client);
+    let records = next.records;
+    let next = list.with(records, result.in_use);
     with_list(called(answer, uptime.end), next)
 }

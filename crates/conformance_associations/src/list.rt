@@ -1,5 +1,4 @@
 // A list of client records in lines and answers.
-use association_rules::Table;
 use client::Client;
 use conformance_parts::answers::Answer;
 use conformance_parts::input::take_count;
@@ -60,17 +59,8 @@ pub(crate) fn take_list(line: &[u8], at: usize) -> TakenList {
 }
 
 impl List {
-    pub(crate) fn table(self) -> Table {
-        let r = self.records;
-        Table::new(self.count, r[0], r[1], r[2], r[3], r[4], r[5], r[6], r[7])
-    }
-
-    // The list after a call that stored a record at a number; past the end of the list nothing is stored.
-    pub(crate) fn after(self, in_use: usize, at: usize, client: Client) -> List {
-        let mut records = self.records;
-        if at < self.count && at < LARGEST_COUNT {
-            records[at] = client;
-        }
+    // The list after a call: as many records, these ones, and this number in use.
+    pub(crate) fn with(self, records: [Client; LARGEST_COUNT], in_use: usize) -> List {
         List {
             records,
             count: self.count,
