@@ -6,7 +6,7 @@ use hex_encode::put_line;
 use libc::STDIN_FILENO;
 use libc::STDOUT_FILENO;
 use reply_checks::ArrivalAnswer;
-use server::Settings;
+use server_packet::Settings;
 use timestamp::Timestamp;
 
 const COUNT: u64 = 10_000_000;

@@ -12,7 +12,7 @@ use conformance_parts::input::take64;
 use conformance_parts::lengths::LONGEST_LENT;
 use conformance_parts::lent::filled;
 use server::ReplyAnswer;
-use server::Settings;
+use server_packet::Settings;
 use timestamp::Timestamp;
 use twos_complement::signed8;
 

@@ -12,7 +12,8 @@ use Rattle.client.specs.Ask.{waitingFor}
 use Rattle.client.specs.Calls as calls
 use Rattle.client.specs.Calls.{arrival, Outcome}
 use Rattle.request.specs.Request.{requestFields}
-use Rattle.server.specs.Server.{replyFields, synchronisedFields}
+use Rattle.server_packet.specs.Packet.{synchronisedFields, packetFields}
+use Rattle.server.specs.Server.{replyMessage, replyFields}
 use Rattle.demands.specs.Form.{does}
 use Rattle.demands.specs.Arrival.{accepted, sanityRules, arrivalRules}
 use Rattle.demands.specs.Measure.{Four, fourRules, P, Q, d, offset, half}
@@ -46,10 +47,10 @@ module _ (r : Run) (p : Premises ours r) where
   w = waitingFor (r .client) (r .version) (T1 e) (r .uptime)
 
   abbrev said : Fields
-  said = synchronisedFields (r .settings) (requestFields (r .version) (T1 e)) (T2 e) (T3 e)
+  said = synchronisedFields (r .settings) (replyMessage (requestFields (r .version) (T1 e)) (T2 e) (T3 e))
 
   octets-are : octetsOf (replyFields (r .settings) (requestFields (r .version) (T1 e)) (T2 e) (T3 e)) ≡ octetsOf said
-  unfolding replyFields
+  unfolding packetFields
   octets-are = rw (p .synchronised)
 
   of-reply : fieldsOf (octetsOf said) ≡ typed said

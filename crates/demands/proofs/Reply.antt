@@ -6,9 +6,10 @@ use lib.ListN.{length, drop}
 use Rattle.ordered_tests.specs.Tests.{Tests, Given, answerOf, keptOf}
 use Rattle.timestamp.specs.Timestamp.{_since_}
 use Rattle.packet.specs.Packet.{fieldsOf, octetsOf}
-use Rattle.server.specs.declared.Settings.{Settings}
+use Rattle.server_packet.specs.declared.Settings.{Settings}
 use Rattle.server.specs.declared.ReplyAnswer.{ReplyAnswer}
-use Rattle.server.specs.Server.{outOfRange, requestTests, replyTests, replyFields, replied, repliedBuffer}
+use Rattle.server_packet.specs.Packet.{outOfRange}
+use Rattle.server.specs.Server.{requestTests, replyTests, replyFields, replied, repliedBuffer}
 use Rattle.demands.specs.Common.{Written}
 use Rattle.demands.specs.Reply.{Request, LegallySet, reply, ours}
 use Rattle.ordered_tests.proofs.Reflection.{WhereFalse, negated, both, guarded, is-true, at-least, equal, within}

@@ -23,9 +23,10 @@ use Rattle.client.specs.declared.Client.{Client}
 use Rattle.request.specs.Request.{request, requestFields}
 use Rattle.client.specs.Ask.{waitingFor}
 use Rattle.request.proofs.Request.{request-octets}
-use Rattle.server.specs.declared.Settings.{Settings}
+use Rattle.server_packet.specs.declared.Settings.{Settings}
 use Rattle.server.specs.declared.ReplyAnswer.{ReplyAnswer}
-use Rattle.server.specs.Server.{replyWith, replyFields}
+use Rattle.server_packet.specs.Packet.{packetWith}
+use Rattle.server.specs.Server.{replyMessage, replyFields}
 use Rattle.client.specs.Calls as calls
 use Rattle.client.specs.Calls.{ask, Outcome}
 use Rattle.demands.specs.Form.{refusal, Rules}
@@ -115,9 +116,9 @@ module _ (version : ℕ) (clock : Timestamp) (small : version ≤ 4) (fits : clo
   -- a reply to it is read back as its fields
   pub reply-fields : (s : Settings) → LegallySet s → (leap stratum identifier : ℕ) (reference receive transmit : Timestamp)
       → leap ≤ 3 → stratum < 2 ^ 8 → receive .0 < 2 ^ 64 → transmit .0 < 2 ^ 64
-      → let f = replyWith s (requestFields version clock) leap stratum identifier reference receive transmit in fieldsOf (octetsOf f) ≡ typed f
+      → let f = packetWith s (replyMessage (requestFields version clock) receive transmit) leap stratum identifier reference receive transmit in fieldsOf (octetsOf f) ≡ typed f
   reply-fields s set leap stratum identifier reference receive transmit l st r t =
-      let f = replyWith s (requestFields version clock) leap stratum identifier reference receive transmit in
+      let f = packetWith s (replyMessage (requestFields version clock) receive transmit) leap stratum identifier reference receive transmit in
       ap fieldsOf (sym (typed-octets f)) ∙ fieldsOf-octetsOf (typed f) (record {
         small = rw (le-ltb 3 leap l, le-ltb 7 version (omega arith));
         stratum = st;

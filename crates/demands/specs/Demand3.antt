@@ -17,7 +17,7 @@ use Rattle.offset.specs.Halving.{twice}
 use Rattle.packet.specs.Packet.{fieldsOf}
 use Rattle.client.specs.declared.Client.{Client}
 use Rattle.client.specs.Calls.{Call, ask, arrival, giveUp, accepted, Outcome}
-use Rattle.server.specs.declared.Settings.{Settings}
+use Rattle.server_packet.specs.declared.Settings.{Settings}
 use Rattle.server.specs.declared.ReplyAnswer.{ReplyAnswer}
 use Rattle.demands.specs.Form.{refusal}
 use Rattle.demands.specs.Common.{notAvailable, IsPacket, Written}

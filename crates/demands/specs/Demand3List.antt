@@ -13,7 +13,7 @@ use Rattle.timestamp.specs.declared.Timestamp.{Timestamp}
 use Rattle.offset.specs.Halving.{twice}
 use Rattle.client.specs.declared.Client.{Client}
 use Rattle.client.specs.Calls.{accepted}
-use Rattle.server.specs.declared.Settings.{Settings}
+use Rattle.server_packet.specs.declared.Settings.{Settings}
 use Rattle.server.specs.declared.ReplyAnswer.{ReplyAnswer}
 use Rattle.association_rules.specs.Associations.{association}
 use Rattle.demands.specs.Form.{refusal}

@@ -6,7 +6,7 @@ use mathlib.Core.List.{List, [], _∷_}
 use lib.IntN.{pos, negℤ}
 use lib.ListN.{replicate}
 use Rattle.timestamp.specs.Timestamp.{timestamp}
-use Rattle.server.specs.declared.Settings.{Settings}
+use Rattle.server_packet.specs.declared.Settings.{Settings}
 use Rattle.client.specs.Record.{fresh}
 use Rattle.client.specs.Calls.{Call, ask, arrival, giveUp}
 use Rattle.demands.specs.Measure.{P, Q}

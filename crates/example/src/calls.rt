@@ -10,7 +10,7 @@ use client::Client;
 use packet::FieldsAnswer;
 use reply_checks::ArrivalAnswer;
 use server::ReplyAnswer;
-use server::Settings;
+use server_packet::Settings;
 use timestamp::Timestamp;
 
 // What an ask or a give-up answers; the next record is handed on.

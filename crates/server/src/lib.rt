@@ -4,31 +4,19 @@ ghost use Prim.Native.Nat.{_≤_};
 ghost use mathlib.Core.List.{_++_};
 ghost use lib.ListN.{length, drop};
 ghost use Rattle.ordered_tests.specs.Tests.{number, answer, kept};
-ghost use Rattle.packet.specs.Packet.{packetLength, octetsOf, written};
-ghost use Rattle.server.specs.Server.{outOfRange, requestTests, replyWith, synchronisedFields, unsynchronisedFields, replyFields, replied, repliedBuffer};
+ghost use Rattle.packet.specs.Packet.{packetLength, octetsOf};
+ghost use Rattle.server.specs.Server.{requestTests, replyMessage, replyFields, replied, repliedBuffer};
 use ordered_tests::between;
 use packet::Fields;
 use packet::FieldsAnswer;
+use server_packet::Message;
+use server_packet::Settings;
+use server_packet::out_of_range;
 use timestamp::Timestamp;
-
-// `leap` is LI; `identifier` and `reference` say from where and when the server's clock was last set.
-pub struct Settings {
-    pub synchronised: bool,
-    pub leap: u8,
-    pub precision: i8,
-    pub identifier: u32,
-    pub reference: Timestamp,
-}
 
 pub enum ReplyAnswer {
     Refused(u8),
     Written,
-}
-
-fn out_of_range(settings: Settings) -> bool
-    ensures { λ r. ⌜ r ≡ outOfRange settings ⌝ }
-{
-    (2 < settings.leap) | (settings.precision < -32) | (0 < settings.precision)
 }
 
 // The tests in order, of a request with these fields.
@@ -53,76 +41,17 @@ fn first_refusal(settings: Settings, request: Fields, t2: Timestamp, t3: Timesta
     0
 }
 
-// The reply's fields. Those that depend on whether the server is synchronised are given.
-fn reply_with(
-    settings: Settings,
-    request: Fields,
-    leap: u8,
-    stratum: u8,
-    identifier: u32,
-    reference: Timestamp,
-    receive: Timestamp,
-    transmit: Timestamp,
-) -> Fields
-    ensures { λ r. ⌜ r ≡ replyWith settings request leap stratum identifier reference receive transmit ⌝ }
+fn reply_message(request: Fields, t2: Timestamp, t3: Timestamp) -> Message
+    ensures { λ r. ⌜ r ≡ replyMessage request t2 t3 ⌝ }
 {
     let originate = request.transmit;
-    Fields {
-        leap,
-        version: request.version,
+    Message {
         mode: 4,
-        stratum,
+        version: request.version,
         poll: request.poll,
-        precision: settings.precision,
-        root_delay: 0,
-        root_dispersion: 0,
-        identifier,
-        reference,
         originate,
-        receive,
-        transmit,
-    }
-}
-
-fn synchronised_fields(settings: Settings, request: Fields, t2: Timestamp, t3: Timestamp) -> Fields
-    ensures { λ r. ⌜ r ≡ synchronisedFields settings request t2 t3 ⌝ }
-{
-    reply_with(
-        settings,
-        request,
-        settings.leap,
-        1,
-        settings.identifier,
-        settings.reference,
-        t2,
-        t3,
-    )
-}
-
-fn unsynchronised_fields(settings: Settings, request: Fields) -> Fields
-    ensures { λ r. ⌜ r ≡ unsynchronisedFields settings request ⌝ }
-{
-    reply_with(
-        settings,
-        request,
-        3,
-        0,
-        kiss::code(b"INIT"),
-        Timestamp::ZERO,
-        Timestamp::ZERO,
-        Timestamp::ZERO,
-    )
-}
-
-// Writes the reply. A write in each of the two cases: each compiles to stores of what it knows.
-fn write_reply(settings: Settings, request: Fields, t2: Timestamp, t3: Timestamp, buffer: &mut [u8])
-    ensures { λ _. ⌜ now (buffer .exit) ≡ written (now (buffer .entry)) (replyFields settings request t2 t3) ⌝ }
-{
-    let synchronised = settings.synchronised;
-    if synchronised {
-        packet::write(buffer, synchronised_fields(settings, request, t2, t3));
-    } else {
-        packet::write(buffer, unsynchronised_fields(settings, request));
+        receive: t2,
+        transmit: t3,
     }
 }
 
@@ -143,7 +72,7 @@ fn reply_to(
         return ReplyAnswer::Refused(number);
     }
     // Not refused: the buffer is long enough, and no field is too large.
-    write_reply(settings, request, t2, t3, buffer);
+    server_packet::write(settings, reply_message(request, t2, t3), buffer);
     ReplyAnswer::Written
 }
 

@@ -41,7 +41,8 @@ use Rattle.association_rules.specs.Associations.{anyIllegal, firstRunning, arri
 use Rattle.in_use.specs.InUse.{outside}
 use Rattle.kiss.specs.Kiss.{rowOf}
 use Rattle.server.specs.declared.ReplyAnswer.{ReplyAnswer}
-use Rattle.server.specs.Server.{requestTests, replyFields}
+use Rattle.server_packet.specs.Packet as server-packet
+use Rattle.server.specs.Server.{requestTests}
 use Rattle.server.specs.Server as server
 use Rattle.ledger.specs.declared.Ledger.{Ledger}
 use Rattle.ledger.specs.Ledger.{debtTooLarge, entryTooLarge, entryTests, payment, tickTests}
@@ -148,15 +149,15 @@ number o = clients.client .shown o .number
 
 module _ (f : Implementation clients.client) where
   back : T (tells-other (negsuc 1003) 1 (pos 7) (f (replied slowBack))) → Fails2 client f
-  unfolding arrived arrivals.arrivalAnswer waitingTests checkTests offsetTests _since_ difference signed _modulo_ floorHalf halfOf offset.outOfRange fieldsOf octetsOf octets requests.request illegal askTests afterAsk afterAskBuffer server.replied server.repliedBuffer server.replyTests requestTests server.outOfRange replyFields reading tooSoon gaveUp giveUpTests bits
+  unfolding arrived arrivals.arrivalAnswer waitingTests checkTests offsetTests _since_ difference signed _modulo_ floorHalf halfOf offset.outOfRange fieldsOf octetsOf octets requests.request illegal askTests afterAsk afterAskBuffer server.replied server.repliedBuffer server.replyTests requestTests server-packet.outOfRange server-packet.packetFields reading tooSoon gaveUp giveUpTests bits
   back seen = differs (each client .answers) (replied slowBack) (tells-other (negsuc 1003) 1 (pos 7)) seen tt
 
   odd : T (tells-other (negsuc 1002) 0 (pos 8) (f (replied bothOdd))) → Fails2 client f
-  unfolding arrived arrivals.arrivalAnswer waitingTests checkTests offsetTests _since_ difference signed _modulo_ floorHalf halfOf offset.outOfRange fieldsOf octetsOf octets requests.request illegal askTests afterAsk afterAskBuffer server.replied server.repliedBuffer server.replyTests requestTests server.outOfRange replyFields reading tooSoon gaveUp giveUpTests bits
+  unfolding arrived arrivals.arrivalAnswer waitingTests checkTests offsetTests _since_ difference signed _modulo_ floorHalf halfOf offset.outOfRange fieldsOf octetsOf octets requests.request illegal askTests afterAsk afterAskBuffer server.replied server.repliedBuffer server.replyTests requestTests server-packet.outOfRange server-packet.packetFields reading tooSoon gaveUp giveUpTests bits
   odd seen = differs (each client .answers) (replied bothOdd) (tells-other (negsuc 1002) 0 (pos 8)) seen tt
 
   over-2036 : T (tells-other (pos 43486543872) 0 (pos 3221225472) (f (replied replay))) → Fails2 client f
-  unfolding arrived arrivals.arrivalAnswer waitingTests checkTests offsetTests _since_ difference signed _modulo_ floorHalf halfOf offset.outOfRange fieldsOf octetsOf octets requests.request illegal askTests afterAsk afterAskBuffer server.replied server.repliedBuffer server.replyTests requestTests server.outOfRange replyFields reading tooSoon gaveUp giveUpTests bits
+  unfolding arrived arrivals.arrivalAnswer waitingTests checkTests offsetTests _since_ difference signed _modulo_ floorHalf halfOf offset.outOfRange fieldsOf octetsOf octets requests.request illegal askTests afterAsk afterAskBuffer server.replied server.repliedBuffer server.replyTests requestTests server-packet.outOfRange server-packet.packetFields reading tooSoon gaveUp giveUpTests bits
   over-2036 seen = differs (each client .answers) (replied replay) (tells-other (pos 43486543872) 0 (pos 3221225472)) seen tt
 
   -- a reply with root fields out of range, of which this number is told, and not by ours
@@ -184,7 +185,7 @@ abbrev accepted-ask : acceptance ≢ refusal
 accepted-ask = acceptance-shown .0
 
 pub refuted : Refuted
-unfolding outside anyIllegal firstRunning arrivedFor listAfterArrival rowOf arrived arrivals.arrivalAnswer waitingTests checkTests offsetTests _since_ difference signed _modulo_ floorHalf halfOf offset.outOfRange fieldsOf octetsOf octets requests.request illegal askTests afterAsk afterAskBuffer server.replied server.repliedBuffer server.replyTests requestTests server.outOfRange replyFields reading tooSoon gaveUp giveUpTests bits
+unfolding outside anyIllegal firstRunning arrivedFor listAfterArrival rowOf arrived arrivals.arrivalAnswer waitingTests checkTests offsetTests _since_ difference signed _modulo_ floorHalf halfOf offset.outOfRange fieldsOf octetsOf octets requests.request illegal askTests afterAsk afterAskBuffer server.replied server.repliedBuffer server.replyTests requestTests server-packet.outOfRange server-packet.packetFields reading tooSoon gaveUp giveUpTests bits
 refuted =
     let at-back = orderly slowBack tt in
     let at-out = orderly slowOut tt in

@@ -1,9 +1,0 @@
--- `server::unsynchronised_fields` meets its contract: the identifier is the code. Assumes nothing.
-use Rattle.server.proofs.unsynchronised_fields.Statement.{statement}
-use Rattle.server.proofs.unsynchronised_fields.Tie as tie
-
-returns : tie.Need-returns
-returns c = rw (c .before .code .ensures) at (c .reply-with .ensures)
-
-pub unsynchronised-fields-spec : {M : Type 1} → statement M
-unsynchronised-fields-spec = tie.close (tie.spec _ _ returns)
