@@ -144,6 +144,30 @@ root-dispersion-too-large = 34
 abbrev pub not-in-list : ℕ
 not-in-list = 35
 
+-- broadcast packet: mode not 5
+abbrev pub broadcast-mode-wrong : ℕ
+broadcast-mode-wrong = 36
+
+-- broadcast packet: VN not 1 to 4
+abbrev pub broadcast-version-unsupported : ℕ
+broadcast-version-unsupported = 37
+
+-- broadcast packet: LI 3
+abbrev pub broadcast-unsynchronised : ℕ
+broadcast-unsynchronised = 38
+
+-- broadcast packet: stratum not 1 to 15
+abbrev pub broadcast-stratum-wrong : ℕ
+broadcast-stratum-wrong = 39
+
+-- broadcast packet: transmit timestamp zero
+abbrev pub broadcast-transmit-zero : ℕ
+broadcast-transmit-zero = 40
+
+-- set poll not 4 to 14
+abbrev pub poll-out-of-range : ℕ
+poll-out-of-range = 41
+
 -- replay line malformed
 abbrev pub line-malformed : ℕ
 line-malformed = 64
@@ -186,6 +210,12 @@ numbers =
     ∷ root-delay-out-of-range
     ∷ root-dispersion-too-large
     ∷ not-in-list
+    ∷ broadcast-mode-wrong
+    ∷ broadcast-version-unsupported
+    ∷ broadcast-unsynchronised
+    ∷ broadcast-stratum-wrong
+    ∷ broadcast-transmit-zero
+    ∷ poll-out-of-range
     ∷ line-malformed
     ∷ []
 

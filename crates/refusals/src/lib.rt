@@ -107,11 +107,29 @@ pub const ROOT_DISPERSION_TOO_LARGE: u8 = 34;
 // List of records empty or of more than eight, or a record number, the one in use included, not in it.
 pub const NOT_IN_LIST: u8 = 35;
 
+// Broadcast packet: mode not 5.
+pub const BROADCAST_MODE_WRONG: u8 = 36;
+
+// Broadcast packet: VN not 1 to 4.
+pub const BROADCAST_VERSION_UNSUPPORTED: u8 = 37;
+
+// Broadcast packet: LI 3.
+pub const BROADCAST_UNSYNCHRONISED: u8 = 38;
+
+// Broadcast packet: stratum not 1 to 15.
+pub const BROADCAST_STRATUM_WRONG: u8 = 39;
+
+// Broadcast packet: transmit timestamp zero.
+pub const BROADCAST_TRANSMIT_ZERO: u8 = 40;
+
+// Set poll not 4 to 14.
+pub const POLL_OUT_OF_RANGE: u8 = 41;
+
 // Replay line malformed.
 pub const LINE_MALFORMED: u8 = 64;
 
 // All of them, in the order of the rules' table.
-pub fn numbers() -> [u8; 36]
+pub fn numbers() -> [u8; 42]
     ensures { λ r. ⌜ r ≡ numbers ⌝ }
 {
     [
@@ -150,6 +168,12 @@ pub fn numbers() -> [u8; 36]
         ROOT_DELAY_OUT_OF_RANGE,
         ROOT_DISPERSION_TOO_LARGE,
         NOT_IN_LIST,
+        BROADCAST_MODE_WRONG,
+        BROADCAST_VERSION_UNSUPPORTED,
+        BROADCAST_UNSYNCHRONISED,
+        BROADCAST_STRATUM_WRONG,
+        BROADCAST_TRANSMIT_ZERO,
+        POLL_OUT_OF_RANGE,
         LINE_MALFORMED,
     ]
 }
