@@ -39,13 +39,19 @@ pub enum Refusal {
     RootDelayOutOfRange = 33,
     RootDispersionTooLarge = 34,
     NotInList = 35,
+    BroadcastModeWrong = 36,
+    BroadcastVersionUnsupported = 37,
+    BroadcastUnsynchronised = 38,
+    BroadcastStratumWrong = 39,
+    BroadcastTransmitZero = 40,
+    PollOutOfRange = 41,
     LineMalformed = 64,
 }
 
 use Refusal::*;
 
 /// All refusals, in the order of their numbers.
-const ALL: [Refusal; 36] = [
+const ALL: [Refusal; 42] = [
     BufferTooShort,
     VersionUnsupported,
     OwnClockZero,
@@ -81,6 +87,12 @@ const ALL: [Refusal; 36] = [
     RootDelayOutOfRange,
     RootDispersionTooLarge,
     NotInList,
+    BroadcastModeWrong,
+    BroadcastVersionUnsupported,
+    BroadcastUnsynchronised,
+    BroadcastStratumWrong,
+    BroadcastTransmitZero,
+    PollOutOfRange,
     LineMalformed,
 ];
 
@@ -135,7 +147,7 @@ mod tests {
     #[test]
     fn numbers_there_and_back() {
         for number in 0..=255 {
-            let known = (1..=35).contains(&number) || number == 64;
+            let known = (1..=41).contains(&number) || number == 64;
             let back = Refusal::of_number(number).map(Refusal::number);
             assert_eq!(back, known.then_some(number));
         }
