@@ -1,8 +1,9 @@
 -- Every call meets its form.
-use Rattle.demands.specs.Behaviour.{Operation, client, association, reply, measure, read, write, date, timestamp, precision, entry, tick, line, form, ours}
+use Rattle.demands.specs.Behaviour.{Operation, client, association, reply, broadcast, broadcastArrival, measure, read, write, date, timestamp, precision, entry, tick, line, form, ours}
 use Rattle.demands.proofs.Form.{Meets}
 use Rattle.demands.proofs.Client.{client-meets}
 use Rattle.demands.proofs.Reply.{reply-meets}
+use Rattle.demands.proofs.Broadcast.{broadcast-meets, broadcast-arrival-meets}
 use Rattle.demands.proofs.Measure.{measure-meets}
 use Rattle.demands.proofs.Packet.{read-meets, write-meets}
 use Rattle.demands.proofs.Calendar.{date-meets, timestamp-meets}
@@ -15,6 +16,8 @@ pub each : (x : Operation) → Meets (form x) (ours .does x)
 each client = client-meets
 each association = associations-meets
 each reply = reply-meets
+each broadcast = broadcast-meets
+each broadcastArrival = broadcast-arrival-meets
 each measure = measure-meets
 each read = read-meets
 each write = write-meets

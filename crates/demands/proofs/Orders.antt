@@ -5,11 +5,12 @@ use Rattle.client.specs.Ask.{askTests}
 use Rattle.reply_checks.specs.Checks.{waitingTests, checkTests}
 use Rattle.client.specs.GiveUp.{giveUpTests}
 use Rattle.server.specs.Server as server
+use Rattle.broadcast.specs.Broadcast as broadcasts
 use Rattle.ledger.specs.Ledger.{entryTests, tickTests}
 use Rattle.demands.specs.Orders.{Orders}
 
 pub orders : Orders
-unfolding askTests waitingTests checkTests offsetTests giveUpTests server.replyTests server.requestTests entryTests tickTests
+unfolding broadcasts.writeTests broadcasts.fieldTests askTests waitingTests checkTests offsetTests giveUpTests server.replyTests server.requestTests entryTests tickTests
 orders = record {
   ask = λ c x. record { in-table = refl; in-rules = refl };
   arrival = λ c x. record { in-table = refl; in-rules = refl };
@@ -18,6 +19,8 @@ orders = record {
   list-arrival = λ list at inUse x. record { in-table = refl; in-rules = refl };
   list-give-up = λ list at inUse x. record { in-table = refl; in-rules = refl };
   server = λ x. record { in-table = refl; in-rules = refl };
+  broadcasting = λ x. record { in-table = refl; in-rules = refl };
+  broadcast-arrival = λ x. record { in-table = refl; in-rules = refl };
   four = λ x. record { in-table = refl; in-rules = refl };
   reading = λ p. record { in-table = refl; in-rules = refl };
   writing = λ x. record { in-table = refl; in-rules = refl };

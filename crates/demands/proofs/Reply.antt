@@ -26,7 +26,7 @@ make x g = record {
   octets = keptOf g (x .buffer) (octetsOf (replyFields (x .settings) (fieldsOf (x .request)) (x .t2) (x .t3)) ++ drop 48 (x .buffer));
 }
 
-legally-set : (s : Settings) → WhereFalse (LegallySet s) (outOfRange s)
+pub legally-set : (s : Settings) → WhereFalse (LegallySet s) (outOfRange s)
 unfolding outOfRange
 legally-set s =
     let three = both (both (at-least 2 (s .leap)) (at-most (negℤ (pos 32)) (s .precision))) (at-most (s .precision) (pos 0)) in

@@ -4,6 +4,7 @@ use mathlib.Core.Logic.{_≢_, inl}
 use mathlib.Core.Bool.{Bool, true}
 use mathlib.Core.List.{List, _++_}
 use Prim.Native.Nat.{ℕ, _%_, _^_, _≤_, _<_}
+use native.Mathlib.Nat.{mod-eq-of-lt}
 use native.Mathlib.Omega.{arith}
 use borrow.Author.Tests.{le-ltb}
 use lib.IntN.{pos}
@@ -25,6 +26,7 @@ use Rattle.client.specs.Ask.{waitingFor}
 use Rattle.request.proofs.Request.{request-octets}
 use Rattle.server_packet.specs.declared.Settings.{Settings}
 use Rattle.server.specs.declared.ReplyAnswer.{ReplyAnswer}
+use Rattle.server_packet.specs.declared.Message.{Message}
 use Rattle.server_packet.specs.Packet.{packetWith}
 use Rattle.server.specs.Server.{replyMessage, replyFields}
 use Rattle.client.specs.Calls as calls
@@ -62,7 +64,7 @@ asked-is c x accepted =
 -- ---- the 48 octets of fields
 
 -- at the start of a buffer
-front : (f : Fields) (rest : List ℕ) → take 48 (octetsOf f ++ rest) ≡ octetsOf f
+pub front : (f : Fields) (rest : List ℕ) → take 48 (octetsOf f ++ rest) ≡ octetsOf f
 front f rest =
     let l = length-octetsOf f in
     take-append-le 48 (octetsOf f) rest (omega arith) ∙ take-all 48 (octetsOf f) (omega arith)
@@ -88,6 +90,47 @@ typed f = record {
 typed-octets : (f : Fields) → octetsOf (typed f) ≡ octetsOf f
 unfolding octetsOf
 typed-octets f = rw (octets-mod 4 (f .identifier), octets-mod 8 (f .reference .0))
+
+-- where they are such values, the fields are the same
+pub typed-is : (f : Fields) → f .identifier < 2 ^ 32 → f .reference .0 < 2 ^ 64 → typed f ≡ f
+typed-is f id rf =
+    let e : f .identifier % 256 ^ 4 ≡ f .identifier = mod-eq-of-lt (omega arith) in
+    let r : f .reference .0 % 256 ^ 8 ≡ f .reference .0 = mod-eq-of-lt (omega arith) in
+    λ i. record {
+      leap = f .leap;
+      version = f .version;
+      mode = f .mode;
+      stratum = f .stratum;
+      poll = f .poll;
+      precision = f .precision;
+      «root_delay» = f .«root_delay»;
+      «root_dispersion» = f .«root_dispersion»;
+      identifier = e i;
+      reference = timestamp (r i);
+      originate = f .originate;
+      receive = f .receive;
+      transmit = f .transmit;
+    }
+
+-- a packet of the server is read back as its fields
+pub packet-fields : (s : Settings) → LegallySet s → (m : Message) (leap stratum identifier : ℕ) (reference receive transmit : Timestamp)
+    → m .version ≤ 7 → m .mode ≤ 7 → m .poll < 2 ^ 8 → m .originate .0 < 2 ^ 64 → leap ≤ 3 → stratum < 2 ^ 8 → receive .0 < 2 ^ 64 → transmit .0 < 2 ^ 64
+    → let f = packetWith s m leap stratum identifier reference receive transmit in fieldsOf (octetsOf f) ≡ typed f
+packet-fields s set m leap stratum identifier reference receive transmit version mode poll originate l st r t =
+    let f = packetWith s m leap stratum identifier reference receive transmit in
+    ap fieldsOf (sym (typed-octets f)) ∙ fieldsOf-octetsOf (typed f) (record {
+      small = rw (le-ltb 3 leap l, le-ltb 7 (m .version) version, le-ltb 7 (m .mode) mode);
+      stratum = st;
+      poll = poll;
+      precision = record { low = let low = set .precision .0 in omega (arith, integers, neg (pos (2 ^ 7))); high = let high = set .precision .1 in omega (arith, integers) };
+      «root_delay» = record { low = omega (arith, integers); high = omega (arith, integers) };
+      «root_dispersion» = omega arith;
+      identifier = omega arith;
+      reference = omega arith;
+      originate = originate;
+      receive = r;
+      transmit = t;
+    })
 
 -- ---- the request's fields
 
@@ -117,21 +160,8 @@ module _ (version : ℕ) (clock : Timestamp) (small : version ≤ 4) (fits : clo
   pub reply-fields : (s : Settings) → LegallySet s → (leap stratum identifier : ℕ) (reference receive transmit : Timestamp)
       → leap ≤ 3 → stratum < 2 ^ 8 → receive .0 < 2 ^ 64 → transmit .0 < 2 ^ 64
       → let f = packetWith s (replyMessage (requestFields version clock) receive transmit) leap stratum identifier reference receive transmit in fieldsOf (octetsOf f) ≡ typed f
-  reply-fields s set leap stratum identifier reference receive transmit l st r t =
-      let f = packetWith s (replyMessage (requestFields version clock) receive transmit) leap stratum identifier reference receive transmit in
-      ap fieldsOf (sym (typed-octets f)) ∙ fieldsOf-octetsOf (typed f) (record {
-        small = rw (le-ltb 3 leap l, le-ltb 7 version (omega arith));
-        stratum = st;
-        poll = omega arith;
-        precision = record { low = let low = set .precision .0 in omega (arith, integers, neg (pos (2 ^ 7))); high = let high = set .precision .1 in omega (arith, integers) };
-        «root_delay» = record { low = omega (arith, integers); high = omega (arith, integers) };
-        «root_dispersion» = omega arith;
-        identifier = omega arith;
-        reference = omega arith;
-        originate = fits;
-        receive = r;
-        transmit = t;
-      })
+  reply-fields s set leap stratum identifier reference receive transmit =
+      packet-fields s set (replyMessage (requestFields version clock) receive transmit) leap stratum identifier reference receive transmit (omega arith) (omega arith) (omega arith) fits
 
 -- ---- the server's reply to an ask that is not refused
 

@@ -33,15 +33,15 @@ premises b e o asked = record {
 }
 
 -- tests, together and one by one
-abbrev all : List Bool → Bool
+abbrev pub all : List Bool → Bool
 all [] = true
 all (x ∷ xs) = x && all xs
 
-abbrev Each : List Bool → Type 0
+abbrev pub Each : List Bool → Type 0
 Each [] = Unit {0}
 Each (x ∷ xs) = T x × Each xs
 
-each : (xs : List Bool) → T (all xs) → Each xs
+pub each : (xs : List Bool) → T (all xs) → Each xs
 each [] t = tt
 each (x ∷ xs) t = let (first, rest) = and-yes x (all xs) t in (first, each xs rest)
 

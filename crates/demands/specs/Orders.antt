@@ -19,6 +19,7 @@ use Rattle.client.specs.GiveUp.{giveUpTests}
 use Rattle.client.specs.Calls.{Ask, Arrival, GiveUp}
 use Rattle.association_rules.specs.Associations.{listTests, association}
 use Rattle.server.specs.Server.{replyTests}
+use Rattle.broadcast.specs.Broadcast as broadcasts
 use Rattle.ledger.specs.Ledger.{entryTests, tickTests}
 use Rattle.demands.specs.Form.{Rules, _unless_then_, _provided_else_, does, refuses}
 use Rattle.demands.specs.Ask.{askRules}
@@ -32,6 +33,7 @@ use Rattle.demands.specs.Date as dates
 use Rattle.demands.specs.Timestamp as timestamps
 use Rattle.demands.specs.Precision.{precision}
 use Rattle.demands.specs.Reply.{Request, reply}
+use Rattle.demands.specs.Broadcast.{Broadcast, broadcast, BroadcastArrival, broadcastArrival}
 use Rattle.demands.specs.Entry.{Entry, entry}
 use Rattle.demands.specs.Tick.{Tick, tick}
 
@@ -62,6 +64,13 @@ listOrder = tests (35 ∷ 29 ∷ [])
 -- 14 and 17 when synchronised
 abbrev pub replyOrder : List Place
 replyOrder = tests (1 ∷ 7 ∷ 21 ∷ 22 ∷ 23 ∷ 14 ∷ 17 ∷ [])
+
+-- 14 when synchronised
+abbrev pub broadcastOrder : List Place
+broadcastOrder = tests (1 ∷ 22 ∷ 23 ∷ 41 ∷ 14 ∷ [])
+
+abbrev pub broadcastArrivalOrder : List Place
+broadcastArrivalOrder = tests (7 ∷ 36 ∷ 37 ∷ 38 ∷ 39 ∷ 40 ∷ 3 ∷ [])
 
 abbrev pub measureOrder : List Place
 measureOrder = tests (15 ∷ 16 ∷ 17 ∷ 18 ∷ 19 ∷ [])
@@ -120,6 +129,8 @@ pub record Orders : Type 0 where
   pub list-give-up : (list : List Client) (at inUse : ℕ) (x : GiveUp)
       → Both (listOrder ++ giveUpOrder) (listTests list at inUse (giveUpTests (association list at) (x .uptime))) (listRules list at inUse (associations.giveUp x))
   pub server : (x : Request) → Both replyOrder (replyTests (x .settings) (x .request) (x .t2) (x .t3) (x .buffer)) (reply .rules x)
+  pub broadcasting : (x : Broadcast) → Both broadcastOrder (broadcasts.writeTests (x .settings) (x .version) (x .poll) (x .t3) (length (x .buffer))) (broadcast .rules x)
+  pub broadcast-arrival : (x : BroadcastArrival) → Both broadcastArrivalOrder (broadcasts.arrivalTests (x .packet) (x .t4)) (broadcastArrival .rules x)
   pub four : (x : Four) → Both measureOrder (offsetTests (x .t4 since x .t1) (x .t3 since x .t2) (P x) (Q x)) (measure .rules x)
   pub reading : (p : List ℕ) → Both readOrder (readTests p) (read .rules p)
   pub writing : (x : Fill) → Both writeOrder (writeTests (x .buffer) (x .fields)) (write .rules x)

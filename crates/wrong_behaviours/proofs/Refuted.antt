@@ -3,7 +3,7 @@ use Prim.Native.Nat.{ℕ, _^_}
 use mathlib.Core.Path.{refl, sym, ap, subst, _∙_}
 use mathlib.Core.Logic.{_≢_}
 use mathlib.Core.Bool.{Bool, true, false, not, _&&_}
-use mathlib.Core.List.{List, [], _∷_}
+use mathlib.Core.List.{List, [], _∷_, _++_}
 use native.Mathlib.Omega.{arith}
 use lib.Dec.{T, eqb, leb}
 use lib.ListN.{getD, replicate}
@@ -40,6 +40,7 @@ use Rattle.client.specs.Calls.{Call, ask, arrival, giveUp, Result, refused, don
 use Rattle.association_rules.specs.Associations.{anyIllegal, firstRunning, arrivedFor, listAfterArrival}
 use Rattle.in_use.specs.InUse.{outside}
 use Rattle.kiss.specs.Kiss.{rowOf}
+use Rattle.broadcast.specs.Broadcast.{broadcastArrived, fieldTests}
 use Rattle.server.specs.declared.ReplyAnswer.{ReplyAnswer}
 use Rattle.server_packet.specs.Packet as server-packet
 use Rattle.server.specs.Server.{requestTests}
@@ -54,7 +55,7 @@ use Rattle.demands.specs.Reply.{Request}
 use Rattle.demands.specs.Associations as associations
 use Rattle.demands.specs.Associations.{ListInput}
 use Rattle.demands.specs.SeveralServers.{rate}
-use Rattle.demands.specs.Behaviour.{client, association, reply, form, ours}
+use Rattle.demands.specs.Behaviour.{client, association, reply, broadcastArrival, form, ours}
 use Rattle.demands.specs.Behaviour as behaviour
 use Rattle.demands.specs.Demand3.{Exchange, reading, T2, T3, T4, Orderly, theAsk, theArrival}
 use Rattle.demands.specs.Witnesses.{replay, settings, buffer, run}
@@ -63,7 +64,7 @@ use Rattle.demands.proofs.Form.{acceptance-shown, differs, unique}
 use Rattle.demands.proofs.Each.{each}
 use Rattle.demands.proofs.Witnesses.{orderly}
 use Rattle.wrong_behaviours.specs.Client.{refusing, alwaysWriting, anyVersion, takingNone, stayingWaiting, spending, alwaysStopping, neverStopping, kissFirst, unsignedTimes, rootUntested, negativeDelayUntested, dispersionSigned, rootSwapped, rootAfter15, fixing, measuring, zeroOffset, hugeDelay, halfLost, largeHalf, towardZero, halvedApart}
-use Rattle.wrong_behaviours.specs.Others.{preferringFirst, forgettingUse, neverReplying, wrongOriginate, fourthYearDates, fourthYearTimestamps, roundedDown, takingEntries, payingAll, refusingLines, droppingDigits, startingAfresh}
+use Rattle.wrong_behaviours.specs.Others.{preferringFirst, forgettingUse, answeringZero, neverReplying, wrongOriginate, fourthYearDates, fourthYearTimestamps, roundedDown, takingEntries, payingAll, refusingLines, droppingDigits, startingAfresh}
 use Rattle.wrong_behaviours.specs.Refuted.{withClient, withServer, Fails1, Fails2, Fails3, Refuted}
 use Rattle.wrong_behaviours.proofs.Exchanges.{slowBack, slowOut, bothOdd, otherServer, waiting, request, replied, with-root, with-kiss, tells-other, near, inBound, concluded, in-bound}
 
@@ -169,6 +170,10 @@ module _ (f : Implementation clients.client) where
     in-bound-at : T (not (inBound e (theArrival (withClient f) (run e) .result))) → Fails3 (withClient f)
     in-bound-at other demand = contradiction (inBound e (theArrival (withClient f) (run e) .result)) (in-bound e o (withClient f) asked demand) other
 
+-- a broadcast packet of version 4, stratum 1 and transmit timestamp 7
+abbrev fromBroadcast : List ℕ
+fromBroadcast = 0x25 ∷ 1 ∷ replicate 38 0 ++ octets 8 7
+
 -- three records that wait for the kiss RATE, one of them called
 abbrev kissed-at : (at inUse : ℕ) → ListInput
 kissed-at at inUse = record {
@@ -185,7 +190,7 @@ abbrev accepted-ask : acceptance ≢ refusal
 accepted-ask = acceptance-shown .0
 
 pub refuted : Refuted
-unfolding outside anyIllegal firstRunning arrivedFor listAfterArrival rowOf arrived arrivals.arrivalAnswer waitingTests checkTests offsetTests _since_ difference signed _modulo_ floorHalf halfOf offset.outOfRange fieldsOf octetsOf octets requests.request illegal askTests afterAsk afterAskBuffer server.replied server.repliedBuffer server.replyTests requestTests server-packet.outOfRange server-packet.packetFields reading tooSoon gaveUp giveUpTests bits
+unfolding broadcastArrived fieldTests outside anyIllegal firstRunning arrivedFor listAfterArrival rowOf arrived arrivals.arrivalAnswer waitingTests checkTests offsetTests _since_ difference signed _modulo_ floorHalf halfOf offset.outOfRange fieldsOf octetsOf octets requests.request illegal askTests afterAsk afterAskBuffer server.replied server.repliedBuffer server.replyTests requestTests server-packet.outOfRange server-packet.packetFields reading tooSoon gaveUp giveUpTests bits
 refuted =
     let at-back = orderly slowBack tt in
     let at-out = orderly slowOut tt in
@@ -242,6 +247,7 @@ refuted =
       -- record 0 is kissed and use moves to record 1; record 1 is kissed while record 0 is in use, and use stays at 0
       prefers-first = differs (each association .answers) (kissed-at 0 0) (λ o. eqb (o .inUse) 0) tt tt;
       forgets-use = differs (each association .answers) (kissed-at 1 0) (λ o. eqb (o .inUse) 1) tt tt;
+      always-0 = differs (each broadcastArrival .answers) (record { packet = fromBroadcast; t4 = timestamp 5 }) (λ a. eqb (natAbs (getD (form broadcastArrival .shown a .values) 0 (pos 0))) 0) tt tt;
       never-replies = λ number. (
         differs (each reply .answers) (request slowBack) (λ w. not (is-written (w .answer))) tt tt,
         (λ demand. subst (λ a. T (is-written a)) (sym (concluded slowBack at-back (withServer (neverReplying number)) accepted-ask demand .answered)) tt),

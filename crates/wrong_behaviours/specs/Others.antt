@@ -25,6 +25,7 @@ use Rattle.client.specs.declared.Client.{Client}
 use Rattle.client.specs.Record.{fresh}
 use Rattle.server.specs.declared.ReplyAnswer.{ReplyAnswer}
 use Rattle.server.specs.Server.{replyFields}
+use Rattle.broadcast.specs.declared.BroadcastAnswer.{BroadcastAnswer}
 use Rattle.ledger.specs.declared.EntryAnswer.{EntryAnswer}
 use Rattle.ledger.specs.declared.TickAnswer.{TickAnswer}
 use Rattle.hex_decode.specs.Decoding.{decode}
@@ -34,6 +35,8 @@ use Rattle.demands.specs.Associations as lists
 use Rattle.demands.specs.Associations.{ListInput, ListOutcome, associations}
 use Rattle.demands.specs.Reply as replies
 use Rattle.demands.specs.Reply.{Request, reply}
+use Rattle.demands.specs.Broadcast as broadcasts
+use Rattle.demands.specs.Broadcast.{broadcastArrival}
 use Rattle.demands.specs.Read.{read}
 use Rattle.demands.specs.Write as writing
 use Rattle.demands.specs.Write.{write}
@@ -79,6 +82,15 @@ replyingAnyway x = record {
   answer = replies.ours x .answer;
   octets = take (length (x .buffer)) (octetsOf (replyFields (x .settings) (fieldsOf (x .request)) (x .t2) (x .t3)) ++ drop 48 (x .buffer));
 }
+
+-- ---- the client of a broadcast: it answers 0 where ours answers a difference
+
+abbrev zeroed : BroadcastAnswer → BroadcastAnswer
+zeroed (BroadcastAnswer.Refused n) = BroadcastAnswer.Refused n
+zeroed (BroadcastAnswer.Difference d) = BroadcastAnswer.Difference (pos 0)
+
+abbrev pub answeringZero : Implementation broadcastArrival
+answeringZero x = zeroed (broadcasts.ours-arrival x)
 
 -- ---- the packet: reader and writer refuse what ours refuse, and do nothing
 

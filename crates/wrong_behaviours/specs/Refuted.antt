@@ -11,18 +11,20 @@ use Rattle.demands.specs.Client as clients
 use Rattle.demands.specs.Reply as replies
 use Rattle.demands.specs.Reply.{Request}
 use Rattle.demands.specs.Line.{carrying}
-use Rattle.demands.specs.Behaviour.{Operation, client, association, reply, measure, read, write, date, timestamp, precision, entry, tick, line, form, Behaviour, ours}
+use Rattle.demands.specs.Behaviour.{Operation, client, association, reply, broadcast, broadcastArrival, measure, read, write, date, timestamp, precision, entry, tick, line, form, Behaviour, ours}
 use Rattle.demands.specs.Demand2.{Demand2}
 use Rattle.demands.specs.Demand3.{Demand3}
 use Rattle.demands.specs.SingleServer.{NeverStops}
 use Rattle.wrong_behaviours.specs.Client.{laterStart, refusing, alwaysWriting, anyVersion, takingNone, stayingWaiting, spending, alwaysStopping, neverStopping, kissFirst, unsignedTimes, rootUntested, negativeDelayUntested, dispersionSigned, rootSwapped, rootAfter15, fixing, measuring, zeroOffset, hugeDelay, halfLost, largeHalf, towardZero, halvedApart}
-use Rattle.wrong_behaviours.specs.Others.{preferringFirst, forgettingUse, neverReplying, wrongOriginate, replyingAnyway, readingNothing, writingNothing, fourthYearDates, fourthYearTimestamps, roundedDown, refusingEntries, takingEntries, payingAll, refusingLines, droppingDigits, startingAfresh}
+use Rattle.wrong_behaviours.specs.Others.{preferringFirst, forgettingUse, answeringZero, neverReplying, wrongOriginate, replyingAnyway, readingNothing, writingNothing, fourthYearDates, fourthYearTimestamps, roundedDown, refusingEntries, takingEntries, payingAll, refusingLines, droppingDigits, startingAfresh}
 
 -- ours with this client
 abbrev clientOf : Implementation clients.client → (x : Operation) → Implementation (form x)
 clientOf f client = f
 clientOf f association = ours .does association
 clientOf f reply = ours .does reply
+clientOf f broadcast = ours .does broadcast
+clientOf f broadcastArrival = ours .does broadcastArrival
 clientOf f measure = ours .does measure
 clientOf f read = ours .does read
 clientOf f write = ours .does write
@@ -41,6 +43,8 @@ abbrev serverOf : Implementation replies.reply → (x : Operation) → Implement
 serverOf f client = ours .does client
 serverOf f association = ours .does association
 serverOf f reply = f
+serverOf f broadcast = ours .does broadcast
+serverOf f broadcastArrival = ours .does broadcastArrival
 serverOf f measure = ours .does measure
 serverOf f read = ours .does read
 serverOf f write = ours .does write
@@ -111,6 +115,8 @@ pub record Refuted : Type 0 where
   pub never-replies : (number : Request → ℕ) → Server23 (neverReplying number)
   pub wrong-originate : Server23 wrongOriginate
   pub replies-anyway : Fails1 reply replyingAnyway
+  -- the client of a broadcast
+  pub always-0 : Fails2 broadcastArrival answeringZero
   -- the packet, the calendar, the precision octet
   pub reads-nothing : Fails2 read readingNothing
   pub writes-nothing : Fails2 write writingNothing
