@@ -1,6 +1,7 @@
 //! The conformance program: every call's answer, one line in, one line out: docs/CONFORMANCE.md.
 
 pub mod answer;
+pub mod broadcast_call;
 pub mod call;
 pub mod list_call;
 pub mod records;

@@ -1,5 +1,6 @@
 //! Generators of lines for a comparison of two programs. The same seed gives the same lines.
 
+mod broadcast_calls;
 mod calendar_calls;
 mod client_calls;
 pub mod conformance;

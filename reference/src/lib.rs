@@ -1,12 +1,13 @@
-//! An independent second program for the SNTP client, a gateway's associations, the server, the
-//! calendar, the precision octet, the ledger and both line formats, so that its answers can be
-//! compared octet for octet with another program's. It is written from docs/RULES.md and
-//! docs/CONFORMANCE.md alone.
+//! An independent second program for the SNTP client, a gateway's associations, the server,
+//! broadcast, the calendar, the precision octet, the ledger and both line formats, so that its
+//! answers can be compared octet for octet with another program's. It is written from
+//! docs/RULES.md and docs/CONFORMANCE.md alone.
 
 #![cfg_attr(not(test), deny(clippy::unwrap_used, clippy::expect_used, clippy::panic))]
 
 pub mod arrival;
 pub mod associations;
+pub mod broadcast;
 pub mod calendar;
 pub mod calendar_benchmark;
 pub mod client;

@@ -13,6 +13,13 @@ pub struct Settings {
     pub reference: u64,
 }
 
+impl Settings {
+    /// Refuses settings that are out of range, synchronised or not.
+    pub fn test(&self) -> Result<(), Refusal> {
+        SettingsOutOfRange.when(self.leap > 2 || !(-32..=0).contains(&self.precision))
+    }
+}
+
 /// Writes the reply to a request.
 pub fn reply(
     settings: &Settings,
@@ -25,13 +32,20 @@ pub fn reply(
     let request = packet::read(request)?;
     RequestModeWrong.when(request.mode != 3)?;
     RequestVersionUnsupported.when(!(1..=4).contains(&request.version))?;
-    SettingsOutOfRange.when(settings.leap > 2 || !(-32..=0).contains(&settings.precision))?;
+    settings.test()?;
     if settings.synchronised {
         ServerTimestampZero.when(t2 == 0 || t3 == 0)?;
         AnsweredBeforeReceived.when(timestamp::difference(t3, t2) < 0)?;
-        packet::write(&synchronised(settings, t2, t3, &request), buffer)
+    }
+    packet::write(&reply_fields(settings, t2, t3, &request), buffer)
+}
+
+/// The fields of the reply to a request.
+pub fn reply_fields(settings: &Settings, t2: u64, t3: u64, request: &Fields) -> Fields {
+    if settings.synchronised {
+        synchronised(settings, t2, t3, request)
     } else {
-        packet::write(&unsynchronised(settings, &request), buffer)
+        unsynchronised(settings, request)
     }
 }
 

@@ -199,6 +199,63 @@ fn calls_on_a_ledger() {
     assert_eq!(one(&format!("0D{zero}{zero}00")), "40");
 }
 
+/// A writer's answer: flag, leap indicator and precision, version and poll, T3, and n.
+fn broadcast(set: &str, version_poll: &str, t3: &str, n: &str) -> String {
+    one(&format!("11{set}475053000102030405060708{version_poll}{t3}{n}"))
+}
+
+#[test]
+fn broadcasts_written() {
+    let t3 = "FFFFFFFA00000000";
+    let zero = "0000000000000000";
+    let on = format!("0025010EEC{zero}475053000102030405060708{zero}{zero}{t3}");
+    let off = format!("00E50004EC{zero}494E4954{}", zero.repeat(4));
+    assert_eq!(broadcast("0100EC", "040E", t3, "30"), on);
+    assert_eq!(broadcast("0100EC", "040E", t3, "32"), format!("{on}8A8B"));
+    assert_eq!(broadcast("0000EC", "0404", t3, "30"), off);
+    assert_eq!(broadcast("0000EC", "0404", zero, "31"), format!("{off}8A"));
+    assert_eq!(broadcast("0103EC", "0003", zero, "02"), "015A5B");
+    let number = |set, version_poll, t3| broadcast(set, version_poll, t3, "30")[..6].to_string();
+    assert_eq!(number("0103EC", "0003", zero), "165A5B");
+    assert_eq!(number("0103EC", "0503", zero), "165A5B");
+    assert_eq!(number("010001", "0103", zero), "175A5B");
+    assert_eq!(number("0002DF", "010F", zero), "175A5B");
+    assert_eq!(number("0102E0", "010F", zero), "295A5B");
+    assert_eq!(number("010200", "0104", zero), "0E5A5B");
+}
+
+#[test]
+fn broadcasts_arriving() {
+    let arrival = |t4: &str, packet: &str| one(&format!("12{t4}{packet}"));
+    let packet = REPLY.replacen("24", "25", 1);
+    let t4 = "FFFFFFFBC0000000";
+    assert_eq!(arrival(t4, &packet), "0000000009C0000000");
+    assert_eq!(arrival("0000000600000000", &packet), "00FFFFFFFF80000000");
+    assert_eq!(arrival(t4, &format!("{packet}{}", "AB".repeat(20))), "0000000009C0000000");
+    assert_eq!(arrival(t4, &format!("{packet}AB")), "07");
+    assert_eq!(arrival(t4, ""), "07");
+    assert_eq!(arrival(t4, REPLY), "24");
+    assert_eq!(arrival(t4, &packet.replacen("25", "2D", 1)), "25");
+    assert_eq!(arrival(t4, &packet.replacen("25", "E5", 1)), "26");
+    assert_eq!(arrival(t4, &packet.replacen("2501", "2500", 1)), "27");
+    assert_eq!(arrival(t4, &packet.replacen("2501", "2510", 1)), "27");
+    assert_eq!(arrival(t4, &packet.replace("0000000580000000", "0000000000000000")), "28");
+    assert_eq!(arrival("0000000000000000", &packet), "03");
+}
+
+#[test]
+fn malformed_broadcasts() {
+    let zero = "0000000000000000";
+    assert_eq!(broadcast("0100EC", "0404", zero, "50").len(), 2 + 160);
+    assert_eq!(broadcast("0100EC", "0404", zero, "51"), "40");
+    assert_eq!(broadcast("0200EC", "0404", zero, "30"), "40");
+    assert_eq!(broadcast("0100EC", "0404", zero, ""), "40");
+    assert_eq!(broadcast("0100EC", "0404", zero, "3000"), "40");
+    let arrival = |octets: usize| one(&format!("12{}", "00".repeat(octets)));
+    let answers = [7, 8, 88, 89].map(arrival);
+    assert_eq!(answers, ["40", "07", "07", "40"]);
+}
+
 #[test]
 fn malformed_by_their_characters() {
     for line in ["\n", "0", "F0\r", "F0 ", " F0", "F0\0", "0G", "F", "F00"] {
@@ -209,7 +266,7 @@ fn malformed_by_their_characters() {
 
 #[test]
 fn malformed_by_their_operation_or_length() {
-    for line in ["00", "11", "F3", "F000", "0100", "0C", "0D", "0E", "0F", "10"] {
+    for line in ["00", "13", "F3", "F000", "0100", "0C", "0D", "0E", "0F", "10", "11", "12"] {
         assert_eq!(one(line), "40", "{line:?}");
     }
     assert_eq!(one("03"), "07");

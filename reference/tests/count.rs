@@ -58,6 +58,18 @@ fn lists_that_are_missing_are_found() {
 }
 
 #[test]
+fn broadcasts_that_are_missing_are_found() {
+    let without_writer = missing_without("11");
+    for row in ["11 41", "-- 64-n-broadcast", "-- 64-length-11-long"] {
+        assert!(without_writer.contains(&row.to_string()), "{without_writer:?}");
+    }
+    let without_clock_zero = missing_without("120000000000000000");
+    for row in ["12 03", "12 T4-zero", "12 40-before-3"] {
+        assert!(without_clock_zero.contains(&row.to_string()), "{without_clock_zero:?}");
+    }
+}
+
+#[test]
 fn the_same_seed_gives_the_same_lines() {
     assert!(conformance_lines(3) == conformance_lines(3));
     assert!(conformance_lines(3) != conformance_lines(4));

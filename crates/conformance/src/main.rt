@@ -36,6 +36,8 @@ fn answer_to(line: &[u8]) -> Answer {
         0x0E => conformance_associations::ask(line, at),
         0x0F => conformance_associations::arrival(line, at),
         0x10 => conformance_associations::give_up(line, at),
+        0x11 => conformance_broadcast::write(line, at),
+        0x12 => conformance_broadcast::arrival(line, at),
         0xF0 => conformance_client::fresh(at),
         0xF1 => conformance_times::constants(at),
         0xF2 => conformance_times::halve(line, at),

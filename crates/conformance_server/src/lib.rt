@@ -1,4 +1,4 @@
-// The operation of the server: 0B.
+// The operation of the server: 0B; and a server's settings in a line.
 // Part of the test program `conformance`: run and compared with the independent program, not specified.
 use conformance_parts::answers::Answer;
 use conformance_parts::input::packet;
@@ -16,12 +16,12 @@ use server_packet::Settings;
 use timestamp::Timestamp;
 use twos_complement::signed8;
 
-struct TakenSettings {
-    value: Settings,
-    end: usize,
+pub struct TakenSettings {
+    pub value: Settings,
+    pub end: usize,
 }
 
-fn take_settings(line: &[u8], at: usize) -> TakenSettings {
+pub fn take_settings(line: &[u8], at: usize) -> TakenSettings {
     let synchronised = take_limited(line, at, 1);
     let leap = take8(line, synchronised.end);
     let precision = take8(line, leap.end);

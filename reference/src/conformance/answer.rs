@@ -1,5 +1,6 @@
 //! The answers to conformance lines.
 
+use super::broadcast_call::BroadcastCall;
 use super::call::{Call, LONGEST, put_numbers};
 use super::list_call::{ListCall, RecordCall};
 use super::records::{put_client, put_date, put_fields};
@@ -8,14 +9,12 @@ use crate::associations::Associations;
 use crate::client::{Client, FRESH, ask, give_up};
 use crate::refusal::{Refusal, number_of};
 use crate::timestamp::{self, Measured};
-use crate::{calendar, ledger, packet, precision, server};
+use crate::{broadcast, calendar, ledger, packet, precision, server};
 
 pub fn put_answer(call: &Call, out: &mut Vec<u8>) {
     match *call {
         Call::Difference { x, y } => put_difference(x, y, out),
-        Call::Measure { t1, t2, t3, t4 } => {
-            put_result(timestamp::measure(t1, t2, t3, t4), out, |m, out| m.put(out));
-        }
+        Call::Measure { t1, t2, t3, t4 } => put_measured([t1, t2, t3, t4], out),
         Call::ReadFields { packet } => {
             put_result(packet::read(packet), out, |fields, out| put_fields(&fields, out));
         }
@@ -44,6 +43,7 @@ pub fn put_answer(call: &Call, out: &mut Vec<u8>) {
         Call::Entry { debt, offset, half } => put_entry(debt, offset, half, out),
         Call::Tick { debt, limit } => put_tick(debt, limit, out),
         Call::OfList(ref call) => put_list_answer(call, out),
+        Call::OfBroadcast(ref call) => put_broadcast_answer(call, out),
         Call::Fresh => put_next(&FRESH, Ok(FRESH), out),
         Call::Constants => put_constants(out),
         Call::Halve { sum } => put_halves(sum, out),
@@ -53,6 +53,10 @@ pub fn put_answer(call: &Call, out: &mut Vec<u8>) {
 fn put_difference(x: u64, y: u64, out: &mut Vec<u8>) {
     out.push(0);
     put_numbers([timestamp::difference(x, y) as u64], out);
+}
+
+fn put_measured([t1, t2, t3, t4]: [u64; 4], out: &mut Vec<u8>) {
+    put_result(timestamp::measure(t1, t2, t3, t4), out, |m, out| m.put(out));
 }
 
 fn put_constants(out: &mut Vec<u8>) {
@@ -155,6 +159,19 @@ fn put_list_answer(call: &ListCall, out: &mut Vec<u8>) {
             put_arrived(list, list.arrival(number, packet, t4), out);
         }
         RecordCall::GiveUp { uptime } => put_next(list, list.give_up(number, uptime), out),
+    }
+}
+
+fn put_broadcast_answer(call: &BroadcastCall, out: &mut Vec<u8>) {
+    match *call {
+        BroadcastCall::Write { ref settings, version, poll, t3, n } => {
+            put_written(n, out, |buffer| broadcast::write(settings, version, poll, t3, buffer));
+        }
+        BroadcastCall::Arrival { t4, packet } => {
+            put_result(broadcast::arrival(packet, t4), out, |difference, out| {
+                put_numbers([difference as u64], out);
+            });
+        }
     }
 }
 

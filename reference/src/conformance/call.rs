@@ -1,5 +1,6 @@
 //! A conformance line as a call with its arguments: read from the line's octets, and written.
 
+use super::broadcast_call::BroadcastCall;
 use super::list_call::{LARGEST_COUNT, ListCall, list_length, record_at};
 use super::records::*;
 use crate::calendar::Date;
@@ -40,6 +41,7 @@ pub enum Call<'a> {
     Entry { debt: i64, offset: i64, half: u8 },
     Tick { debt: i64, limit: u64 },
     OfList(ListCall<'a>),
+    OfBroadcast(BroadcastCall<'a>),
     Fresh,
     Constants,
     Halve { sum: i64 },
@@ -85,6 +87,8 @@ pub fn lengths(operation: u8, rest: &[u8]) -> Result<(usize, usize), Malformed> 
         0x0E => after_list(18, 18)?,
         0x0F => after_list(8, 8 + longest)?,
         0x10 => after_list(8, 8)?,
+        0x11 => (26, 26),
+        0x12 => (8, 8 + longest),
         0xF0 | 0xF1 => (0, 0),
         0xF2 => (8, 8),
         _ => return Err(Malformed::Operation),
@@ -147,6 +151,7 @@ fn read_call<'a>(operation: u8, octets: &mut Reader<'a>) -> Result<Call<'a>, Mal
         0x0C => Call::Entry { debt: octets.i64()?, offset: octets.i64()?, half: octets.u8()? },
         0x0D => Call::Tick { debt: octets.i64()?, limit: octets.u64()? },
         0x0E..=0x10 => Call::OfList(ListCall::read(operation, octets)?),
+        0x11 | 0x12 => Call::OfBroadcast(BroadcastCall::read(operation, octets)?),
         0xF0 => Call::Fresh,
         0xF1 => Call::Constants,
         0xF2 => Call::Halve { sum: octets.i64()? },
@@ -180,6 +185,7 @@ impl<'a> Call<'a> {
             Call::Entry { .. } => 0x0C,
             Call::Tick { .. } => 0x0D,
             Call::OfList(call) => call.operation(),
+            Call::OfBroadcast(call) => call.operation(),
             Call::Fresh => 0xF0,
             Call::Constants => 0xF1,
             Call::Halve { .. } => 0xF2,
@@ -221,6 +227,7 @@ impl<'a> Call<'a> {
             }
             Call::Tick { debt, limit } => put_numbers([debt as u64, limit], line),
             Call::OfList(ref call) => call.put(line),
+            Call::OfBroadcast(ref call) => call.put(line),
             Call::Fresh | Call::Constants => {}
             Call::Halve { sum } => put_numbers([sum as u64], line),
         }

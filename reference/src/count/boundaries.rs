@@ -1,6 +1,7 @@
 //! Whether lines stood on both sides of each boundary that the rules draw.
 
 mod arrival;
+mod broadcast;
 mod calendar;
 mod client;
 mod ledger;
@@ -102,6 +103,7 @@ impl Boundaries {
             }
             Call::Tick { debt, limit } => ledger::tick(m, debt, limit, answer, outcome, run),
             Call::OfList(ref call) => lists::list_call(m, call, answer, outcome),
+            Call::OfBroadcast(ref call) => broadcast::broadcast_call(m, call, outcome),
             Call::Halve { sum } => plain::halve(m, sum),
             Call::Difference { .. } | Call::Fresh | Call::Constants => {}
         }

@@ -9,7 +9,7 @@ use crate::kiss::CODES;
 use crate::refusal::Refusal::{self, *};
 
 /// Each number that each call can give, beside 00. Calls for a record of a list have one more.
-const REFUSALS: [(u8, &[Refusal]); 19] = [
+const REFUSALS: [(u8, &[Refusal]); 21] = [
     (0x01, &[]),
     (0x02, &MEASURE_REFUSALS),
     (0x03, &[PacketLengthWrong]),
@@ -26,6 +26,8 @@ const REFUSALS: [(u8, &[Refusal]); 19] = [
     (0x0E, &ASK_REFUSALS),
     (LIST_ARRIVAL, &ARRIVAL_REFUSALS),
     (0x10, &GIVE_UP_REFUSALS),
+    (0x11, &BROADCAST_WRITE_REFUSALS),
+    (0x12, &BROADCAST_ARRIVAL_REFUSALS),
     (0xF0, &[]),
     (0xF1, &[]),
     (0xF2, &[]),
@@ -81,10 +83,28 @@ const REPLY_REFUSALS: [Refusal; 7] = [
     AnsweredBeforeReceived,
 ];
 
-/// All malformed lines and their kinds; by themselves also the wrong lengths of the ledger's and
-/// the list's lines, the wrong flag of an alternate, what is wrong in a list's records, and a list
-/// of ten.
-const MALFORMED: [&str; 28] = [
+const BROADCAST_WRITE_REFUSALS: [Refusal; 5] = [
+    BufferTooShort,
+    RequestVersionUnsupported,
+    SettingsOutOfRange,
+    PollOutOfRange,
+    ServerTimestampZero,
+];
+
+const BROADCAST_ARRIVAL_REFUSALS: [Refusal; 7] = [
+    PacketLengthWrong,
+    BroadcastModeWrong,
+    BroadcastVersionUnsupported,
+    BroadcastUnsynchronised,
+    BroadcastStratumWrong,
+    BroadcastTransmitZero,
+    OwnClockZero,
+];
+
+/// All malformed lines and their kinds; by themselves also the wrong lengths of the ledger's, the
+/// list's and broadcast lines, the wrong flag of an alternate, what is wrong in a list's records
+/// and in a broadcast line, and a list of ten.
+const MALFORMED: [&str; 34] = [
     "",
     "-empty",
     "-odd",
@@ -104,13 +124,19 @@ const MALFORMED: [&str; 28] = [
     "-length-0F-long",
     "-length-10-short",
     "-length-10-long",
+    "-length-11-short",
+    "-length-11-long",
+    "-length-12-short",
+    "-length-12-long",
     "-flag",
     "-flag-alternate",
     "-flag-list",
+    "-flag-broadcast",
     "-phase",
     "-phase-list",
     "-n",
     "-n-list",
+    "-n-broadcast",
     "-count",
     "-count-10",
 ];
@@ -192,7 +218,7 @@ fn kind_of(malformed: Malformed) -> &'static str {
     }
 }
 
-/// Which wrong length a line of the ledger or of a list has.
+/// Which wrong length a line of the ledger, of a list or of broadcast has.
 fn kind_of_length(line: &[u8]) -> Option<&'static str> {
     let (&operation, rest) = line.split_first()?;
     // A list without its count is too short.
@@ -208,6 +234,10 @@ fn kind_of_length(line: &[u8]) -> Option<&'static str> {
         (0x0F, true) => Some("-length-0F-long"),
         (0x10, false) => Some("-length-10-short"),
         (0x10, true) => Some("-length-10-long"),
+        (0x11, false) => Some("-length-11-short"),
+        (0x11, true) => Some("-length-11-long"),
+        (0x12, false) => Some("-length-12-short"),
+        (0x12, true) => Some("-length-12-long"),
         _ => None,
     }
 }
@@ -221,12 +251,15 @@ fn has_alternate_wrong(line: &[u8]) -> bool {
 /// The kind that a malformed line is of besides, if any.
 fn further_kind(malformed: Malformed, line: &[u8]) -> Option<&'static str> {
     let of_list = line.first().is_some_and(|&operation| is_of_list(operation));
+    let of_broadcast = line.first() == Some(&0x11);
     match malformed {
         Malformed::Length => kind_of_length(line),
         Malformed::Flag if has_alternate_wrong(line) => Some("-flag-alternate"),
         Malformed::Flag if of_list => Some("-flag-list"),
+        Malformed::Flag if of_broadcast => Some("-flag-broadcast"),
         Malformed::Phase if of_list => Some("-phase-list"),
         Malformed::BufferLength if of_list => Some("-n-list"),
+        Malformed::BufferLength if of_broadcast => Some("-n-broadcast"),
         Malformed::Count if line.get(COUNT_AT) == Some(&(LARGEST_COUNT + 1)) => Some("-count-10"),
         _ => None,
     }

@@ -1,6 +1,7 @@
 //! The fixed lines that every conformance stream begins with: the figures of the rules, each
 //! length, each kiss row, both sides of each limit, and each kind of malformed line.
 
+mod broadcasts;
 mod calendar;
 mod clients;
 mod exchanges;
@@ -59,6 +60,7 @@ pub fn lines() -> Vec<Vec<u8>> {
     exchanges::put_lines(&mut lines);
     clients::put_lines(&mut lines);
     lists::put_lines(&mut lines);
+    broadcasts::put_lines(&mut lines);
     ledger::put_lines(&mut lines);
     malformed::put_lines(&mut lines);
     lines.0
@@ -69,6 +71,6 @@ mod tests {
     #[test]
     fn there_are_enough() {
         let count = super::lines().len();
-        assert!((10_000..12_000).contains(&count), "{count}");
+        assert!((12_000..13_000).contains(&count), "{count}");
     }
 }

@@ -1,11 +1,13 @@
 //! Conformance lines whose octets are not a call.
 
+use super::broadcast_calls;
 use super::client_calls::{arrival, ask, give_up};
 use super::conformance::put_call;
 use super::list_calls;
 use super::packets::put_any;
 use super::plain_calls::write_fields;
 use super::server_calls::reply;
+use crate::conformance::broadcast_call::N_OF_BROADCAST_AT;
 use crate::conformance::call::*;
 use crate::conformance::list_call::{COUNT_AT, LARGEST_COUNT, record_at};
 use crate::conformance::records::ASKED_AFTER_PHASE;
@@ -62,9 +64,10 @@ fn lengthen(r: &mut Random, line: &mut Vec<u8>) {
 /// A line that ends before its packet begins.
 fn cut_before_packet(r: &mut Random, line: &mut Vec<u8>) {
     line.clear();
-    match r.below(3) {
+    match r.below(4) {
         0 => arrival(r, line),
         1 => list_calls::arrival(r, line),
+        2 => broadcast_calls::arrival(r, line),
         _ => reply(r, line),
     }
     let (shortest, _) = line_lengths(line);
@@ -122,7 +125,7 @@ fn make_flag_wrong(r: &mut Random, line: &mut Vec<u8>) {
     const ASKED: (usize, u8) = (ASKED_AT, 2);
     const ALTERNATE: (usize, u8) = (ALTERNATE_AT, 2);
     line.clear();
-    let (at, least) = match r.below(5) {
+    let (at, least) = match r.below(6) {
         0 => {
             ask(r, line);
             r.pick([PHASE, ASKED])
@@ -140,6 +143,10 @@ fn make_flag_wrong(r: &mut Random, line: &mut Vec<u8>) {
             let at = record_at(r.below(count as u64) as usize);
             r.pick([(at, 3), (at + ASKED_AFTER_PHASE, 2)])
         }
+        4 => {
+            broadcast_calls::write(r, line);
+            (SYNCHRONISED_AT, 2)
+        }
         _ => {
             reply(r, line);
             (SYNCHRONISED_AT, 2)
@@ -151,7 +158,7 @@ fn make_flag_wrong(r: &mut Random, line: &mut Vec<u8>) {
 /// A buffer that is too long.
 fn make_buffer_long(r: &mut Random, line: &mut Vec<u8>) {
     line.clear();
-    let at = match r.below(4) {
+    let at = match r.below(5) {
         0 => {
             write_fields(r, line);
             N_OF_WRITE_AT
@@ -163,6 +170,10 @@ fn make_buffer_long(r: &mut Random, line: &mut Vec<u8>) {
         2 => {
             list_calls::ask(r, line);
             record_at(line.get(COUNT_AT).map_or(0, |&count| count.into()))
+        }
+        3 => {
+            broadcast_calls::write(r, line);
+            N_OF_BROADCAST_AT
         }
         _ => {
             reply(r, line);

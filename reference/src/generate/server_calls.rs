@@ -8,7 +8,7 @@ use crate::packet::Fields;
 use crate::random::Random;
 use crate::server::Settings;
 
-fn settings(r: &mut Random) -> Settings {
+pub fn settings(r: &mut Random) -> Settings {
     Settings {
         synchronised: !r.one_in(4),
         leap: match r.below(12) {

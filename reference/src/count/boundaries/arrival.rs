@@ -11,7 +11,7 @@ use crate::refusal::Refusal::*;
 use crate::timestamp::{difference, measure};
 
 /// The fields of a packet; one too short to have any stands for zeros, and is refused for that.
-fn fields_of(packet: &[u8]) -> Fields {
+pub fn fields_of(packet: &[u8]) -> Fields {
     let fields = packet.first_chunk::<LENGTH>().map(|octets| packet::read(octets));
     fields.and_then(Result::ok).unwrap_or_default()
 }
@@ -31,6 +31,7 @@ pub fn arrival(
     m.see("7-before-8", outcome.by(PacketLengthWrong) && client.phase != Phase::Waiting);
     m.see("8-idle", outcome.by(NotWaiting) && client.phase == Phase::Idle);
     m.see("8-stopped", outcome.by(NotWaiting) && client.phase == Phase::Stopped);
+    broadcasts(m, client.phase, &fields, outcome);
     first_octets(m, &fields, outcome);
     server_timestamps(m, &fields, outcome);
     root_delays(m, fields.root_delay, outcome);
@@ -76,6 +77,23 @@ fn lengths(m: &mut Marks, length: usize, outcome: Outcome) {
     m.see("accepted-48", outcome == Outcome::Accepted && length == 48);
     m.see("accepted-68", outcome == Outcome::Accepted && length == 68);
     m.see("kiss-68", outcome.is_kiss() && length == 68);
+}
+
+/// Packets as the writer of a broadcast makes them, synchronised and not.
+fn broadcasts(m: &mut Marks, phase: Phase, fields: &Fields, outcome: Outcome) {
+    let version = (1..=4).contains(&fields.version);
+    let broadcast = version && fields.mode == 5 && fields.originate == 0 && fields.receive == 0;
+    let on = broadcast && fields.leap < 3 && fields.stratum == 1;
+    let off = broadcast && fields.leap == 3 && fields.stratum == 0;
+    let mismatch = outcome.by(OriginateMismatch);
+    let idle = outcome.by(NotWaiting) && phase == Phase::Idle;
+    let stopped = outcome.by(NotWaiting) && phase == Phase::Stopped;
+    m.see("9-broadcast", mismatch && on);
+    m.see("9-broadcast-off", mismatch && off);
+    m.see("8-idle-broadcast", idle && on);
+    m.see("8-idle-broadcast-off", idle && off);
+    m.see("8-stopped-broadcast", stopped && on);
+    m.see("8-stopped-broadcast-off", stopped && off);
 }
 
 fn first_octets(m: &mut Marks, fields: &Fields, outcome: Outcome) {

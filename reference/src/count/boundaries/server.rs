@@ -59,7 +59,13 @@ fn requests(m: &mut Marks, request: &[u8], outcome: Outcome) {
 }
 
 /// Both sides of test 23; the names begin with the given word.
-fn settings_by_name(m: &mut Marks, word: &str, settings: &Settings, outcome: Outcome, on: bool) {
+pub fn settings_by_name(
+    m: &mut Marks,
+    word: &str,
+    settings: &Settings,
+    outcome: Outcome,
+    on: bool,
+) {
     let (leap, precision) = (settings.leap, settings.precision);
     let sent = on && outcome.passed();
     let refused = on && outcome.by(SettingsOutOfRange);

@@ -3,13 +3,15 @@
 use super::{Lines, pairs};
 use crate::associations::Associations;
 use crate::client::FRESH;
+use crate::conformance::broadcast_call::{BroadcastCall, N_OF_BROADCAST_AT};
 use crate::conformance::call::*;
 use crate::conformance::list_call::{COUNT_AT, LARGEST_COUNT, ListCall, RecordCall, record_at};
 use crate::conformance::records::{ASKED_AFTER_PHASE, RECORD};
+use crate::server::Settings;
 
 /// Texts that are no line of digits, or no operation.
 const TEXTS: [&str; 14] =
-    ["", "F", "F00", "F000", "F3", "00", "0E", "11", "F0\r", "F0 ", " F0", "F0\0", "G0", "0x"];
+    ["", "F", "F00", "F000", "F3", "00", "0E", "13", "F0\r", "F0 ", " F0", "F0\0", "G0", "0x"];
 
 /// Wrong lengths of one operation's line.
 fn put_lengths(lines: &mut Lines, operation: u8, right: usize) {
@@ -96,10 +98,29 @@ fn put_lists(lines: &mut Lines) {
     }
 }
 
+/// Broadcast lines with a wrong length, a wrong flag, or a buffer that is too long.
+fn put_broadcasts(lines: &mut Lines) {
+    put_lengths(lines, 0x11, 26);
+    let longest = 8 + usize::from(LONGEST);
+    for length in [0, 1, 7, longest + 1, 2 * longest] {
+        lines.octets(&resized(&[0x12], 1 + length));
+    }
+    let settings =
+        Settings { synchronised: true, leap: 0, precision: 0, identifier: [0; 4], reference: 0 };
+    let write = BroadcastCall::Write { settings, version: 4, poll: 6, t3: 1, n: 48 };
+    for (at, value) in [(SYNCHRONISED_AT, 2), (SYNCHRONISED_AT, 255)] {
+        lines.octets(&with_octet(&Call::OfBroadcast(write), at, value));
+    }
+    for n in [LONGEST + 1, 255] {
+        lines.octets(&with_octet(&Call::OfBroadcast(write), N_OF_BROADCAST_AT, n));
+    }
+}
+
 pub fn put_lines(lines: &mut Lines) {
     put_lengths(lines, 0x0C, 17);
     put_lengths(lines, 0x0D, 16);
     put_lists(lines);
+    put_broadcasts(lines);
     let clock = u64::from_be_bytes([1; 8]);
     let ask = Call::Ask { client: FRESH, n: 48, version: 4, clock, uptime: clock };
     let arrival = Call::Arrival { client: FRESH, t4: clock, alternate: false, packet: &[0; 48] };
