@@ -82,6 +82,20 @@ difference-wraps k r x y h e = ap (signed k) (modulo-is (2 ^ k) r (pos x -ℤ po
     c : Congruent (2 ^ k) (pos r) (pos x -ℤ pos y)
     c = record { less = 0; more = (r + y) / 2 ^ k; even = omega (arith, minus (pos x) (pos y), div-add-mod (r + y) (2 ^ k)) }
 
+-- a difference is congruent to x - y, and fits
+module _ (k x y : ℕ) (some : 0 < k) where
+  pub difference-congruent : Congruent (2 ^ k) (difference k x y) (pos x -ℤ pos y)
+  unfolding difference
+  difference-congruent =
+      let n = (pos x -ℤ pos y) modulo 2 ^ k in
+      let s = signed-congruent k n some (modulo-below (pos x -ℤ pos y) (pow-pos k)) in
+      let r = residue (pos x -ℤ pos y) (2 ^ k) (pow-pos k) in
+      record { less = s .more + r .less; more = s .less + r .more; even = omega (arith, s .even, r .even) }
+
+  pub difference-fits : Fits k (difference k x y)
+  unfolding difference
+  difference-fits = signed-fits k ((pos x -ℤ pos y) modulo 2 ^ k) some (modulo-below (pos x -ℤ pos y) (pow-pos k))
+
 -- The law of differences, over the width: the difference of what x and y leave modulo 2^k is x - y exactly where x - y fits.
 module _ (k : ℕ) (x y : ℤ) (some : 0 < k) where
   pub exact : Fits k (x -ℤ y) → difference k (x modulo 2 ^ k) (y modulo 2 ^ k) ≡ x -ℤ y

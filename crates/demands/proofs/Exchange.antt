@@ -11,8 +11,8 @@ use Rattle.timestamp.specs.Timestamp.{_since_}
 use Rattle.offset.specs.Offset.{floorHalf, halfOf}
 use Rattle.offset.specs.Halving.{twice}
 use Rattle.offset.proofs.Halving.{halving}
-use Rattle.demands.specs.Measure.{P, Q, d, InRange}
-use Rattle.demands.specs.Demand3.{Exchange, reading, T1, T2, T3, T4, readings, trueDifference, Orderly}
+use Rattle.demands.specs.Measure.{P, Q, d}
+use Rattle.demands.specs.Demand3.{clocksApart, Exchange, reading, T1, T2, T3, T4, readings, trueDifference, Orderly}
 
 pub reading-below : (a t : ℤ) → reading a t .0 < 2 ^ 64
 unfolding reading
@@ -35,8 +35,8 @@ module _ (e : Exchange) (o : Orderly e) where
 
   record Gaps : Type 0 where
     short : up arrived + dn sent ≤ up sent + dn arrived + 2 ^ 36
-    above : up server + dn client < dn server + up client + (2 ^ 62 - 2 ^ 36)
-    below : dn server + up client < up server + dn client + (2 ^ 62 - 2 ^ 36)
+    above : up server + dn client < dn server + up client + clocksApart
+    below : dn server + up client < up server + dn client + clocksApart
     total : Gap arrived client sent client
     hold : Gap answered server received server
     first : Gap received server sent client
@@ -50,8 +50,8 @@ module _ (e : Exchange) (o : Orderly e) where
       let held = o .hold in
       let back = o .back in
       let limit = o .short in
-      let a : up server + dn client < dn server + up client + (2 ^ 62 - 2 ^ 36) = omega (arith, size (server -ℤ client)) in
-      let b : dn server + up client < up server + dn client + (2 ^ 62 - 2 ^ 36) = omega (arith, size (server -ℤ client)) in
+      let a : up server + dn client < dn server + up client + clocksApart = omega (arith, size (server -ℤ client)) in
+      let b : dn server + up client < up server + dn client + clocksApart = omega (arith, size (server -ℤ client)) in
       let s : up arrived + dn sent ≤ up sent + dn arrived + 2 ^ 36 = omega (arith, integers, minus arrived sent) in
       record {
         short = s;
@@ -69,7 +69,7 @@ module _ (e : Exchange) (o : Orderly e) where
     pub within-limit : (T4 e since T1 e) ≤ℤ pos (2 ^ 36)
     pub answered-after : pos 0 ≤ℤ (T3 e since T2 e)
     pub delay : pos 0 ≤ℤ d (readings e)
-    pub ranges : InRange (P (readings e)) × InRange (Q (readings e))
+    pub same-side : Q (readings e) ≤ℤ P (readings e)
 
   pub timely : Timely
   timely =
@@ -78,13 +78,12 @@ module _ (e : Exchange) (o : Orderly e) where
       let held = o .hold in
       let back = o .back in
       let m = minus (T4 e since T1 e) (T3 e since T2 e) in
-      let low = neg (pos (2 ^ 62)) in
       record {
         arrived-after = omega (arith, integers);
         within-limit = omega (arith, integers);
         answered-after = omega (arith, integers);
         delay = omega (arith, integers);
-        ranges = ((omega (arith, integers), omega (arith, integers)), (omega (arith, integers), omega (arith, integers)));
+        same-side = omega (arith, integers);
       }
 
   -- twice the offset plus the half, less twice the true difference, is at most the delay in size

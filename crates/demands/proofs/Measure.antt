@@ -1,19 +1,18 @@
 -- The arithmetic of four timestamps meets its form.
 use Prim.Native.Nat.{_^_}
 use mathlib.Core.Path.{refl}
-use mathlib.Core.Bool.{_||_}
 use native.Mathlib.Omega.{arith}
-use lib.IntN.{ℤ, pos, negℤ}
-use lib.Signed.{ltZ, _≤ℤ_, _<ℤ_}
+use lib.IntN.{ℤ, pos}
+use lib.Signed.{ltZ, _≤ℤ_}
 use Rattle.arithmetic.proofs.Integers.{integers}
-use Rattle.refusals.specs.Numbers.{arrived-before-sent, arrived-too-late, answered-before-received, delay-negative, difference-out-of-range}
+use Rattle.refusals.specs.Numbers.{arrived-before-sent, arrived-too-late, answered-before-received, delay-negative, first-below-second}
 use Rattle.ordered_tests.specs.Tests.{Tests, _if_else_, answerOf}
 use Rattle.timestamp.specs.Timestamp.{constants, _since_, negative}
 use Rattle.offset.specs.declared.OffsetAnswer.{OffsetAnswer}
-use Rattle.offset.specs.Offset.{outOfRange, offsetTests, measured}
+use Rattle.offset.specs.Offset.{offsetTests, measured}
 use Rattle.demands.specs.Form.{Rules}
-use Rattle.demands.specs.Measure.{Four, P, Q, d, InRange, fourRules, measure, ours}
-use Rattle.ordered_tests.proofs.Reflection.{WhereTrue, WhereFalse, negated, both}
+use Rattle.demands.specs.Measure.{Four, P, Q, d, fourRules, measure, ours}
+use Rattle.ordered_tests.proofs.Reflection.{WhereFalse}
 use Rattle.demands.proofs.Form.{Meets, Reflects, _and_, end, by, acceptance-shown, table-answers}
 
 pub not-negative : (z : ℤ) → WhereFalse (pos 0 ≤ℤ z) (negative z)
@@ -22,13 +21,6 @@ not-negative z = record { to = λ h. omega (arith, integers); from = λ t. omega
 pub at-most : (z limit : ℤ) → WhereFalse (z ≤ℤ limit) (ltZ limit z)
 at-most z limit = record { to = λ h. omega (arith, integers); from = λ t. omega (arith, integers) }
 
-pub below : (z limit : ℤ) → WhereTrue (z <ℤ limit) (ltZ z limit)
-below z limit = record { to = λ h. omega (arith, integers); from = λ t. omega (arith, integers) }
-
-in-range : (z : ℤ) → WhereFalse (InRange z) (outOfRange z)
-unfolding outOfRange
-in-range z = both (at-most (negℤ (pos (2 ^ 62))) z) (negated (below z (pos (2 ^ 62))))
-
 -- the five tests, before any rest
 pub four-rows : {A O : Type 0} {say : A → O} {t : Tests A} {r : Rules O} (x : Four) → Reflects say t r
     → Reflects say
@@ -36,14 +28,14 @@ pub four-rows : {A O : Type 0} {say : A → O} {t : Tests A} {r : Rules O} (x : 
     arrived-too-late if ltZ (constants .limit) (x .t4 since x .t1) else
     answered-before-received if negative (x .t3 since x .t2) else
     delay-negative if negative (d x) else
-    difference-out-of-range if outOfRange (P x) || outOfRange (Q x) else
+    first-below-second if ltZ (P x) (Q x) else
     t) (fourRules x r)
 four-rows x rest =
     not-negative (x .t4 since x .t1)
     and at-most (x .t4 since x .t1) (pos (2 ^ 36))
     and not-negative (x .t3 since x .t2)
     and not-negative (d x)
-    and both (in-range (P x)) (in-range (Q x))
+    and at-most (Q x) (P x)
     and rest
 
 abbrev table : Four → Tests OffsetAnswer

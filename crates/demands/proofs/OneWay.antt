@@ -24,8 +24,8 @@ use Rattle.broadcast.specs.Broadcast.{broadcastMessage}
 use Rattle.demands.specs.Common.{notAvailable, Written}
 use Rattle.demands.specs.Broadcast.{Broadcast, broadcastFields}
 use Rattle.demands.specs.Behaviour.{broadcast, broadcastArrival, ours}
-use Rattle.demands.specs.Demand3.{longestTrip, clocksApart, reading}
-use Rattle.demands.specs.OneWay.{OneWay, T3, T4, trueDifference, travelled, Orderly, Run, theWrite, theArrival, Premises, Conclusions, BroadcastDifference, across, slowest, fastest, runOf, OneWayWitnesses}
+use Rattle.demands.specs.Demand3.{longestTrip, reading}
+use Rattle.demands.specs.OneWay.{broadcastClocksApart, OneWay, T3, T4, trueDifference, travelled, Orderly, Run, theWrite, theArrival, Premises, Conclusions, BroadcastDifference, across, slowest, fastest, runOf, OneWayWitnesses}
 use Rattle.demands.proofs.Form.{done-so}
 use Rattle.demands.proofs.Broadcast.{broadcast-meets, broadcast-arrival-meets}
 use Rattle.demands.proofs.Served.{typed, front, packet-fields}
@@ -124,7 +124,7 @@ tests e =
     ∷ leZ (travelled e) (pos longestTrip)
     ∷ not (isZero (T3 e))
     ∷ not (isZero (T4 e))
-    ∷ ltb (natAbs (trueDifference e)) clocksApart
+    ∷ ltb (natAbs (trueDifference e)) broadcastClocksApart
     ∷ []
 
 met : (e : OneWay) → T (all (tests e)) → Premises ours (runOf e)

@@ -32,7 +32,7 @@ abbrev pub longestTrip : ℕ
 longestTrip = 2 ^ 36
 
 abbrev pub clocksApart : ℕ
-clocksApart = 2 ^ 62 - 2 ^ 36
+clocksApart = 2 ^ 63 - 2 ^ 36
 
 -- true times, and the constants of the two clocks, in units of 2^-32 s: whole numbers of either sign
 pub record Exchange : Type 0 where
@@ -67,7 +67,7 @@ module _ (e : Exchange) where
   abbrev pub trueDifference : ℤ
   trueDifference = e .server -ℤ e .client
 
-  -- sent, received, answered and arrived in that order within 16 seconds, no reading zero, and clocks less than 2^62 - 2^36 units apart
+  -- sent, received, answered and arrived in that order within 16 seconds, no reading zero, and clocks less than 2^63 - 2^36 units apart
   pub record Orderly : Type 0 where
     pub outward : e .sent ≤ℤ e .received
     pub hold : e .received ≤ℤ e .answered

@@ -74,7 +74,7 @@ figures =
     ∷ refusedBy second second second (second - 1) 15
     ∷ refusedBy second second (second + 6) (second + 5) 18
     ∷ givesOffset second (second + 2 ^ 62 - 1) (second + 2 ^ 62 - 1) second (pos (2 ^ 62 - 1))
-    ∷ refusedBy second (second + 2 ^ 62) (second + 2 ^ 62) second 19
+    ∷ givesOffset second (second + 2 ^ 62) (second + 2 ^ 62) second (pos (2 ^ 62))
     ∷ afterAsk 0xFFFFFFFA00000000 replayPacket 0xFFFFFFFBC0000000 (accepted (pos 43486543872) 0 (pos 3221225472))
     ∷ secondsAre 2147483648 (date 1968 1 20 3 14 8 0)
     ∷ secondsAre 2021563904 (date 2100 3 1 0 0 0 0)

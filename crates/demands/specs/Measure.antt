@@ -1,9 +1,9 @@
 -- The arithmetic of four timestamps: T1 sent, T2 received, T3 answered, T4 arrived.
 use Prim.Native.Nat.{ℕ, _^_}
 use mathlib.Core.List.{[], _∷_}
-use lib.IntN.{ℤ, pos, negℤ, _+ℤ_, _-ℤ_}
-use lib.Signed.{_≤ℤ_, _<ℤ_}
-use Rattle.refusals.specs.Numbers.{arrived-before-sent, arrived-too-late, answered-before-received, delay-negative, difference-out-of-range}
+use lib.IntN.{ℤ, pos, _+ℤ_, _-ℤ_}
+use lib.Signed.{_≤ℤ_}
+use Rattle.refusals.specs.Numbers.{arrived-before-sent, arrived-too-late, answered-before-received, delay-negative, first-below-second}
 use Rattle.timestamp.specs.declared.Timestamp.{Timestamp}
 use Rattle.timestamp.specs.Timestamp.{_since_}
 use Rattle.offset.specs.declared.OffsetAnswer.{OffsetAnswer}
@@ -33,10 +33,6 @@ offset x = floorHalf (P x +ℤ Q x)
 abbrev pub half : Four → ℕ
 half x = halfOf (P x +ℤ Q x)
 
--- in -2^62 to 2^62 - 1
-abbrev pub InRange : ℤ → Type 0
-InRange z = (negℤ (pos (2 ^ 62)) ≤ℤ z) × (z <ℤ pos (2 ^ 62))
-
 -- the rules of the four, and then the rest
 abbrev pub fourRules : {O : Type 0} → Four → Rules O → Rules O
 fourRules x rest =
@@ -44,7 +40,7 @@ fourRules x rest =
     arrived-too-late unless (x .t4 since x .t1) ≤ℤ pos (2 ^ 36) then
     answered-before-received unless pos 0 ≤ℤ (x .t3 since x .t2) then
     delay-negative unless pos 0 ≤ℤ d x then
-    difference-out-of-range unless InRange (P x) × InRange (Q x) then
+    first-below-second unless Q x ≤ℤ P x then
     rest
 
 -- offset, half and delay

@@ -16,8 +16,12 @@ use Rattle.broadcast.specs.declared.BroadcastAnswer.{BroadcastAnswer}
 use Rattle.demands.specs.Common.{notAvailable, Written}
 use Rattle.demands.specs.Reply.{LegallySet}
 use Rattle.demands.specs.Behaviour.{Behaviour, broadcast, broadcastArrival, ours}
-use Rattle.demands.specs.Demand3.{longestTrip, clocksApart, reading}
+use Rattle.demands.specs.Demand3.{longestTrip, reading}
 use Rattle.demands.specs.Witnesses.{settings, buffer}
+
+-- how far the clocks may be apart, in units
+abbrev pub broadcastClocksApart : ℕ
+broadcastClocksApart = 2 ^ 62 - 2 ^ 36
 
 -- the true times at which the packet is sent and arrives, and the constants of the two clocks, in units of 2^-32 s: whole numbers of either sign
 pub record OneWay : Type 0 where
@@ -44,7 +48,7 @@ module _ (e : OneWay) where
     pub forth : e .sent ≤ℤ e .arrived
     pub short : travelled ≤ℤ pos longestTrip
     pub nonzero : (T3 ≢ notAvailable) × (T4 ≢ notAvailable)
-    pub near : natAbs trueDifference < clocksApart
+    pub near : natAbs trueDifference < broadcastClocksApart
 
 pub record Run : Type 0 where
   pub way : OneWay

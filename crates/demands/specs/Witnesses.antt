@@ -26,7 +26,7 @@ replay = record {
 
 -- clocks as far apart as is allowed
 abbrev farthest : ℕ
-farthest = 2 ^ 62 - 2 ^ 36 - 1
+farthest = 2 ^ 63 - 2 ^ 36 - 1
 
 -- the request takes 16 s to a server that is ahead, and the reply no time
 abbrev pub ahead : Exchange
@@ -75,6 +75,6 @@ pub record Witnesses : Type 0 where
   pub replay-read : (T1 replay ≡ timestamp 0xFFFFFFFA00000000) × (T2 replay ≡ timestamp 0x0000000480000000)
       × (T3 replay ≡ timestamp 0x0000000580000000) × (T4 replay ≡ timestamp 0xFFFFFFFBC0000000)
   pub ahead-met : Premises ours (run ahead)
-  pub ahead-highest : P (readings ahead) ≡ pos (2 ^ 62 - 1)
+  pub ahead-highest : P (readings ahead) ≡ pos (2 ^ 63 - 1)
   pub behind-met : Premises ours (run behind)
-  pub behind-lowest : Q (readings behind) ≡ negℤ (pos (2 ^ 62 - 1))
+  pub behind-lowest : Q (readings behind) ≡ negℤ (pos (2 ^ 63 - 1))

@@ -1,10 +1,9 @@
 -- The offset, the half and the delay of four timestamps: T1 sent, T2 received, T3 answered, T4 arrived (docs/RULES.md, "Timestamps and their differences").
-use Prim.Native.Nat.{ℕ, suc, _/_, _^_}
-use mathlib.Core.Bool.{Bool, not, _||_}
+use Prim.Native.Nat.{ℕ, suc, _/_}
 use lib.IntN.{ℤ, pos, negsuc, negℤ, _+ℤ_, _-ℤ_}
 use lib.Signed.{ltZ}
 use Rattle.arithmetic.specs.Modulo.{_modulo_}
-use Rattle.refusals.specs.Numbers.{arrived-before-sent, arrived-too-late, answered-before-received, delay-negative, difference-out-of-range}
+use Rattle.refusals.specs.Numbers.{arrived-before-sent, arrived-too-late, answered-before-received, delay-negative, first-below-second}
 use Rattle.ordered_tests.specs.Tests.{Tests, _if_else_, otherwise, answer}
 use Rattle.timestamp.specs.declared.Timestamp.{Timestamp}
 use Rattle.timestamp.specs.Timestamp.{constants, _since_, negative}
@@ -24,10 +23,6 @@ halfOf sum = sum modulo 2
 unfoldable pub halves : ℤ → Halves
 halves sum = record { offset = floorHalf sum; half = halfOf sum }
 
--- not in -2^62 to 2^62 - 1
-unfoldable pub outOfRange : ℤ → Bool
-outOfRange z = ltZ z (negℤ (pos (2 ^ 62))) || not (ltZ z (pos (2 ^ 62)))
-
 -- the tests in order, of T4 - T1, T3 - T2, the first difference P and the second difference Q; the delay d is (T4 - T1) - (T3 - T2)
 unfoldable pub offsetTests : ℤ → ℤ → ℤ → ℤ → Tests OffsetAnswer
 offsetTests trip hold p q =
@@ -35,7 +30,7 @@ offsetTests trip hold p q =
     arrived-too-late if ltZ (constants .limit) trip else
     answered-before-received if negative hold else
     delay-negative if negative (trip -ℤ hold) else
-    difference-out-of-range if outOfRange p || outOfRange q else
+    first-below-second if ltZ p q else
     otherwise (Measured (floorHalf (p +ℤ q)) (halfOf (p +ℤ q)) (trip -ℤ hold))
 
 -- the rules' first difference P = T2 - T1, second difference Q = T3 - T4

@@ -1,7 +1,7 @@
 // The clock offset of four timestamps: T1 sent, T2 received, T3 answered, T4 arrived.
 ghost use mathlib.Core.Path.{_≡_};
-ghost use Rattle.ordered_tests.specs.Tests.{number, answer};
-ghost use Rattle.offset.specs.Offset.{halves, outOfRange, offsetTests, measured};
+ghost use lib.IntN.{_+ℤ_};
+ghost use Rattle.offset.specs.Offset.{halves, measured};
 use timestamp::Timestamp;
 
 // The refusal's number, or the offset with its half, and the round-trip delay, all in units of 2^-32 s.
@@ -16,62 +16,45 @@ pub struct Halves {
     pub half: u8,
 }
 
+// P + Q halved. The sum may need 65 bits, so each is halved by itself, and what the two halvings leave makes one more where both are odd.
 // A shift to the right rounds down also below zero, where a division rounds toward zero.
-pub fn halve(sum: i64) -> Halves
-    ensures { λ r. ⌜ r ≡ halves sum ⌝ }
+pub fn halve(p: i64, q: i64) -> Halves
+    ensures { λ r. ⌜ r ≡ halves (p +ℤ q) ⌝ }
 {
+    let left = (p & 1) + (q & 1);
     Halves {
-        offset: sum >> 1,
-        half: (sum & 1) as u8,
+        offset: (p >> 1) + (q >> 1) + (left >> 1),
+        half: (left & 1) as u8,
     }
 }
 
-fn out_of_range(z: i64) -> bool
-    ensures { λ r. ⌜ r ≡ outOfRange z ⌝ }
+// The clock offset, its half and the round-trip delay. P and Q are the first and the second difference of the rules.
+pub fn measure(t1: Timestamp, t2: Timestamp, t3: Timestamp, t4: Timestamp) -> OffsetAnswer
+    ensures { λ r. ⌜ r ≡ measured t1 t2 t3 t4 ⌝ }
 {
-    (z < -0x4000_0000_0000_0000) | !(z < 0x4000_0000_0000_0000)
-}
-
-// The tests in order, of T4 - T1, T3 - T2, the first difference P and the second difference Q.
-fn first_refusal(trip: i64, hold: i64, p: i64, q: i64) -> u8
-    ensures { λ r. ⌜ r ≡ number (offsetTests trip hold p q) ⌝ }
-{
+    let trip = t4.minus(t1);
     if trip < 0 {
-        return refusals::ARRIVED_BEFORE_SENT;
+        return OffsetAnswer::Refused(refusals::ARRIVED_BEFORE_SENT);
     }
     if Timestamp::LIMIT < trip {
-        return refusals::ARRIVED_TOO_LATE;
+        return OffsetAnswer::Refused(refusals::ARRIVED_TOO_LATE);
     }
+    let hold = t3.minus(t2);
     if hold < 0 {
-        return refusals::ANSWERED_BEFORE_RECEIVED;
+        return OffsetAnswer::Refused(refusals::ANSWERED_BEFORE_RECEIVED);
     }
     if trip < hold {
-        return refusals::DELAY_NEGATIVE;
+        return OffsetAnswer::Refused(refusals::DELAY_NEGATIVE);
     }
-    if out_of_range(p) | out_of_range(q) {
-        return refusals::DIFFERENCE_OUT_OF_RANGE;
+    let p = t2.minus(t1);
+    let q = t3.minus(t4);
+    if p < q {
+        return OffsetAnswer::Refused(refusals::FIRST_BELOW_SECOND);
     }
-    0
-}
-
-fn from_differences(trip: i64, hold: i64, p: i64, q: i64) -> OffsetAnswer
-    ensures { λ r. ⌜ r ≡ answer OffsetAnswer.Refused (offsetTests trip hold p q) ⌝ }
-{
-    let number = first_refusal(trip, hold, p, q);
-    if number != 0 {
-        return OffsetAnswer::Refused(number);
-    }
-    let halves = halve(p + q);
+    let halves = halve(p, q);
     OffsetAnswer::Measured {
         offset: halves.offset,
         half: halves.half,
         delay: trip - hold,
     }
-}
-
-// The clock offset, its half and the round-trip delay.
-pub fn measure(t1: Timestamp, t2: Timestamp, t3: Timestamp, t4: Timestamp) -> OffsetAnswer
-    ensures { λ r. ⌜ r ≡ measured t1 t2 t3 t4 ⌝ }
-{
-    from_differences(t4.minus(t1), t3.minus(t2), t2.minus(t1), t3.minus(t4))
 }

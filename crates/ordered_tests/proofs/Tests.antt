@@ -105,9 +105,9 @@ module _ {A : Type 0} where
       go (suc k) (a when b else rest) e = go k rest e
       go (suc k) (otherwise a) e = refl
 
-  -- it holds, or the row is the last: the code returns this row's number
-  pub returned : {k : ℕ} {t : Tests A} → At k t → test k t ≡ true → numberOf (row k t) ≡ number t
-  returned {k} {t} at e = sym (ap numberOf (at .is ∙ go k t e))
+  -- it holds, or the row is the last: this row is what the table gives
+  settled : {k : ℕ} {t : Tests A} → At k t → test k t ≡ true → row k t ≡ given t
+  settled {k} {t} at e = sym (at .is ∙ go k t e)
     where
       go : (k : ℕ) (t : Tests A) → test k t ≡ true → given (from k t) ≡ row k t
       go zero (n if b else rest) e = rw e
@@ -116,6 +116,13 @@ module _ {A : Type 0} where
       go (suc k) (n if b else rest) e = go k rest e
       go (suc k) (a when b else rest) e = go k rest e
       go (suc k) (otherwise a) e = refl
+
+  -- the code returns this row's number, or its answer
+  pub returned : {k : ℕ} {t : Tests A} → At k t → test k t ≡ true → numberOf (row k t) ≡ number t
+  returned at e = ap numberOf (settled at e)
+
+  pub returned-answer : (say : ℕ → A) {k : ℕ} {t : Tests A} → At k t → test k t ≡ true → answerOf say (row k t) ≡ answer say t
+  returned-answer say at e = ap (answerOf say) (settled at e)
 
 -- what a table gives has the property P where what each row gives has it, wherever that row is the first whose test holds
 module _ {A : Type 0} (P : Given A → Type 0) where

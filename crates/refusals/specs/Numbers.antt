@@ -76,9 +76,9 @@ answered-before-received = 17
 abbrev pub delay-negative : ℕ
 delay-negative = 18
 
--- P or Q not in -2^62 to 2^62 - 1
-abbrev pub difference-out-of-range : ℕ
-difference-out-of-range = 19
+-- P below Q
+abbrev pub first-below-second : ℕ
+first-below-second = 19
 
 -- uptime below the request's, or under 16 s past it
 abbrev pub gave-up-too-soon : ℕ
@@ -193,7 +193,7 @@ numbers =
     ∷ arrived-too-late
     ∷ answered-before-received
     ∷ delay-negative
-    ∷ difference-out-of-range
+    ∷ first-below-second
     ∷ gave-up-too-soon
     ∷ request-mode-wrong
     ∷ request-version-unsupported

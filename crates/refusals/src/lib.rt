@@ -56,8 +56,8 @@ pub const ANSWERED_BEFORE_RECEIVED: u8 = 17;
 // D negative.
 pub const DELAY_NEGATIVE: u8 = 18;
 
-// P or Q not in -2^62 to 2^62 - 1.
-pub const DIFFERENCE_OUT_OF_RANGE: u8 = 19;
+// P below Q.
+pub const FIRST_BELOW_SECOND: u8 = 19;
 
 // Uptime below the request's, or under 16 s past it.
 pub const GAVE_UP_TOO_SOON: u8 = 20;
@@ -151,7 +151,7 @@ pub fn numbers() -> [u8; 42]
         ARRIVED_TOO_LATE,
         ANSWERED_BEFORE_RECEIVED,
         DELAY_NEGATIVE,
-        DIFFERENCE_OUT_OF_RANGE,
+        FIRST_BELOW_SECOND,
         GAVE_UP_TOO_SOON,
         REQUEST_MODE_WRONG,
         REQUEST_VERSION_UNSUPPORTED,

@@ -16,7 +16,6 @@ use Rattle.arithmetic.specs.Octets.{octets}
 use Rattle.arithmetic.proofs.Integers.{integers, size, minus}
 use Rattle.refusals.specs.Numbers.{line-malformed}
 use Rattle.timestamp.specs.Timestamp.{timestamp, fromSeconds, _since_}
-use Rattle.offset.specs.Offset as offset
 use Rattle.offset.specs.Offset.{floorHalf, halfOf, offsetTests}
 use Rattle.offset.specs.Halving.{twice}
 use Rattle.packet.specs.declared.FieldsAnswer.{FieldsAnswer}
@@ -150,15 +149,15 @@ number o = clients.client .shown o .number
 
 module _ (f : Implementation clients.client) where
   back : T (tells-other (negsuc 1003) 1 (pos 7) (f (replied slowBack))) → Fails2 client f
-  unfolding arrived arrivals.arrivalAnswer waitingTests checkTests offsetTests _since_ difference signed _modulo_ floorHalf halfOf offset.outOfRange fieldsOf octetsOf octets requests.request illegal askTests afterAsk afterAskBuffer server.replied server.repliedBuffer server.replyTests requestTests server-packet.outOfRange server-packet.packetFields reading tooSoon gaveUp giveUpTests bits
+  unfolding arrived arrivals.arrivalAnswer waitingTests checkTests offsetTests _since_ difference signed _modulo_ floorHalf halfOf fieldsOf octetsOf octets requests.request illegal askTests afterAsk afterAskBuffer server.replied server.repliedBuffer server.replyTests requestTests server-packet.outOfRange server-packet.packetFields reading tooSoon gaveUp giveUpTests bits
   back seen = differs (each client .answers) (replied slowBack) (tells-other (negsuc 1003) 1 (pos 7)) seen tt
 
   odd : T (tells-other (negsuc 1002) 0 (pos 8) (f (replied bothOdd))) → Fails2 client f
-  unfolding arrived arrivals.arrivalAnswer waitingTests checkTests offsetTests _since_ difference signed _modulo_ floorHalf halfOf offset.outOfRange fieldsOf octetsOf octets requests.request illegal askTests afterAsk afterAskBuffer server.replied server.repliedBuffer server.replyTests requestTests server-packet.outOfRange server-packet.packetFields reading tooSoon gaveUp giveUpTests bits
+  unfolding arrived arrivals.arrivalAnswer waitingTests checkTests offsetTests _since_ difference signed _modulo_ floorHalf halfOf fieldsOf octetsOf octets requests.request illegal askTests afterAsk afterAskBuffer server.replied server.repliedBuffer server.replyTests requestTests server-packet.outOfRange server-packet.packetFields reading tooSoon gaveUp giveUpTests bits
   odd seen = differs (each client .answers) (replied bothOdd) (tells-other (negsuc 1002) 0 (pos 8)) seen tt
 
   over-2036 : T (tells-other (pos 43486543872) 0 (pos 3221225472) (f (replied replay))) → Fails2 client f
-  unfolding arrived arrivals.arrivalAnswer waitingTests checkTests offsetTests _since_ difference signed _modulo_ floorHalf halfOf offset.outOfRange fieldsOf octetsOf octets requests.request illegal askTests afterAsk afterAskBuffer server.replied server.repliedBuffer server.replyTests requestTests server-packet.outOfRange server-packet.packetFields reading tooSoon gaveUp giveUpTests bits
+  unfolding arrived arrivals.arrivalAnswer waitingTests checkTests offsetTests _since_ difference signed _modulo_ floorHalf halfOf fieldsOf octetsOf octets requests.request illegal askTests afterAsk afterAskBuffer server.replied server.repliedBuffer server.replyTests requestTests server-packet.outOfRange server-packet.packetFields reading tooSoon gaveUp giveUpTests bits
   over-2036 seen = differs (each client .answers) (replied replay) (tells-other (pos 43486543872) 0 (pos 3221225472)) seen tt
 
   -- a reply with root fields out of range, of which this number is told, and not by ours
@@ -190,7 +189,7 @@ abbrev accepted-ask : acceptance ≢ refusal
 accepted-ask = acceptance-shown .0
 
 pub refuted : Refuted
-unfolding broadcastArrived fieldTests outside anyIllegal firstRunning arrivedFor listAfterArrival rowOf arrived arrivals.arrivalAnswer waitingTests checkTests offsetTests _since_ difference signed _modulo_ floorHalf halfOf offset.outOfRange fieldsOf octetsOf octets requests.request illegal askTests afterAsk afterAskBuffer server.replied server.repliedBuffer server.replyTests requestTests server-packet.outOfRange server-packet.packetFields reading tooSoon gaveUp giveUpTests bits
+unfolding broadcastArrived fieldTests outside anyIllegal firstRunning arrivedFor listAfterArrival rowOf arrived arrivals.arrivalAnswer waitingTests checkTests offsetTests _since_ difference signed _modulo_ floorHalf halfOf fieldsOf octetsOf octets requests.request illegal askTests afterAsk afterAskBuffer server.replied server.repliedBuffer server.replyTests requestTests server-packet.outOfRange server-packet.packetFields reading tooSoon gaveUp giveUpTests bits
 refuted =
     let at-back = orderly slowBack tt in
     let at-out = orderly slowOut tt in
