@@ -7,13 +7,14 @@
 
 pub mod arrival;
 pub mod associations;
+pub mod benchmarks;
 pub mod broadcast;
 pub mod calendar;
-pub mod calendar_benchmark;
 pub mod client;
 pub mod conformance;
 pub mod count;
 pub mod direct_calendar;
+pub mod direct_measure;
 pub mod generate;
 pub mod hex_lines;
 pub mod kiss;

@@ -3,7 +3,7 @@
 #![deny(clippy::unwrap_used, clippy::expect_used, clippy::panic)]
 
 use reference::count::{self, Counter};
-use reference::{calendar_benchmark, conformance, generate, replay};
+use reference::{benchmarks, conformance, generate, replay};
 use std::fs::File;
 use std::io::{self, BufReader, Write};
 use std::process::ExitCode;
@@ -15,7 +15,8 @@ const USE: &str = "usage:
   reference generate replay COUNT SEED [open]
   reference count conformance LINES ANSWERS [LINES ANSWERS ...]
   reference count replay FRAMES ANSWERS [FRAMES ANSWERS ...]
-  reference calendar walk|direct D|T";
+  reference benchmark walk|direct D|T
+  reference benchmark direct M";
 
 fn main() -> ExitCode {
     let words: Vec<String> = std::env::args().skip(1).collect();
@@ -43,8 +44,8 @@ fn run(words: &[&str]) -> io::Result<()> {
         ["generate", program, count, seed, "open"] => generate(program, count, seed, true),
         ["count", "conformance", files @ ..] => count(count::conformance::counter(), files),
         ["count", "replay", files @ ..] => count(count::replay::counter(), files),
-        ["calendar", calendar, direction] => {
-            let line = calendar_benchmark::line(calendar, direction);
+        ["benchmark", way, work] => {
+            let line = benchmarks::line(way, work);
             io::stdout().write_all(line.ok_or_else(|| problem(USE))?.as_bytes())
         }
         _ => Err(problem(USE)),

@@ -93,8 +93,9 @@ fn timestamps() {
     assert_eq!(outcome(back, T), Refused(AnsweredBeforeReceived));
     let long = Fields { transmit: T + 6, ..GOOD };
     assert_eq!(outcome(long, T + 5), Refused(DelayNegative));
-    let far = Fields { receive: T + (1 << 62), transmit: T + (1 << 62), ..GOOD };
-    assert_eq!(outcome(far, T), Refused(DifferenceOutOfRange));
+    let half_circle = Fields { receive: T + (1 << 63), transmit: T + (1 << 63), ..GOOD };
+    assert_eq!(outcome(half_circle, T), Accepted);
+    assert_eq!(outcome(half_circle, T + 1), Refused(FirstBelowSecond));
 }
 
 #[test]
@@ -152,13 +153,13 @@ fn root_fields_come_after() {
 
 #[test]
 fn root_fields_come_before_timestamps() {
-    let far = T + (1 << 62);
+    let half_circle = T + (1 << 63);
     let later = [
         (T, T, T - 1, ArrivedBeforeSent),
         (T, T, T + (1 << 36) + 1, ArrivedTooLate),
         (T, T - 1, T, AnsweredBeforeReceived),
         (T, T + 6, T + 5, DelayNegative),
-        (far, far, T, DifferenceOutOfRange),
+        (half_circle, half_circle, T + 1, FirstBelowSecond),
     ];
     for (receive, transmit, t4, refusal) in later {
         let with = |root_delay, root_dispersion| {

@@ -15,8 +15,6 @@ fn small_operations() {
     assert_eq!(said(""), "");
     assert_eq!(one("F0"), "000000000000000000000000000000000000000006");
     assert_eq!(one("f1"), "00000000000000000000000001000000000000001000000000");
-    assert_eq!(one("F2FFFFFFFFFFFFFFFF"), "00FFFFFFFFFFFFFFFF01");
-    assert_eq!(one("F28000000000000000"), "00C00000000000000000");
     assert_eq!(one("0100000000000000010000000000000002"), "00FFFFFFFFFFFFFFFF");
     assert_eq!(one("0700000000000010C7"), "00ED");
     assert_eq!(one("070000000000001000"), "00EC");
@@ -38,6 +36,32 @@ fn measures() {
     );
     assert_eq!(one(&format!("02{t}{t}{t}0000001100000001")), "10");
     assert_eq!(one(&format!("02{t}{t}{t}00000000FFFFFFFF")), "0F");
+}
+
+#[test]
+fn halves() {
+    let halve = |p: i64, q: i64| one(&format!("F2{p:016X}{q:016X}"));
+    let good = |offset: i64, half: u8| format!("00{offset:016X}{half:02X}");
+    let (least, most) = (i64::MIN, i64::MAX);
+    for (p, q, offset, half) in [
+        (0, 0, 0, 0),
+        (0, -1, -1, 1),
+        (-1, -1, -1, 0),
+        (1, 1, 1, 0),
+        (3, -1, 1, 0),
+        (most, most, most, 0),
+        (most, most - 1, most - 1, 1),
+        (most, 1, 1 << 62, 0),
+        (least, least, least, 0),
+        (least, least + 1, least, 1),
+        (least, -1, -(1 << 62) - 1, 1),
+        (least, most, -1, 1),
+    ] {
+        assert_eq!([halve(p, q), halve(q, p)], [good(offset, half), good(offset, half)]);
+    }
+    for octets in [0, 8, 15, 17, 24] {
+        assert_eq!(one(&format!("F2{}", "00".repeat(octets))), "40");
+    }
 }
 
 #[test]

@@ -12,7 +12,7 @@ use reference::refusal::Refusal::{self, OriginateMismatch};
 use reference::server::{Settings, reply};
 
 /// No two clocks are this far apart.
-const FAR: i128 = (1 << 62) - (1 << 36);
+const FAR: i128 = (1 << 63) - (1 << 36);
 
 struct Exchange {
     /// T1 to T4.

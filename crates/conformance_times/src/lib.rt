@@ -97,9 +97,13 @@ pub fn constants(at: usize) -> Answer {
 }
 
 pub fn halve(line: &[u8], at: usize) -> Answer {
-    let sum = take64(line, at);
-    let halves = offset::halve(twos_complement::signed64(sum.value));
-    Answer::number(0, sum.end)
+    let p = take64(line, at);
+    let q = take64(line, p.end);
+    let halves = offset::halve(
+        twos_complement::signed64(p.value),
+        twos_complement::signed64(q.value),
+    );
+    Answer::number(0, q.end)
         .with_signed64(halves.offset)
         .with8(halves.half)
 }

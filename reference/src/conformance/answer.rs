@@ -46,7 +46,7 @@ pub fn put_answer(call: &Call, out: &mut Vec<u8>) {
         Call::OfBroadcast(ref call) => put_broadcast_answer(call, out),
         Call::Fresh => put_next(&FRESH, Ok(FRESH), out),
         Call::Constants => put_constants(out),
-        Call::Halve { sum } => put_halves(sum, out),
+        Call::Halve { first, second } => put_halves(first.into(), second.into(), out),
     }
 }
 
@@ -188,8 +188,8 @@ fn put_tick(debt: i64, limit: u64, out: &mut Vec<u8>) {
     put_numbers([payment.paid as u64, payment.debt as u64], out);
 }
 
-fn put_halves(sum: i64, out: &mut Vec<u8>) {
-    let (offset, half) = timestamp::halve(sum.into());
+fn put_halves(first: i128, second: i128, out: &mut Vec<u8>) {
+    let (offset, half) = timestamp::halve(first + second);
     out.push(0);
     put_numbers([offset as u64], out);
     out.push(half);

@@ -44,7 +44,7 @@ pub enum Call<'a> {
     OfBroadcast(BroadcastCall<'a>),
     Fresh,
     Constants,
-    Halve { sum: i64 },
+    Halve { first: i64, second: i64 },
 }
 
 /// Why a line's octets are not a call.
@@ -90,7 +90,7 @@ pub fn lengths(operation: u8, rest: &[u8]) -> Result<(usize, usize), Malformed> 
         0x11 => (26, 26),
         0x12 => (8, 8 + longest),
         0xF0 | 0xF1 => (0, 0),
-        0xF2 => (8, 8),
+        0xF2 => (16, 16),
         _ => return Err(Malformed::Operation),
     })
 }
@@ -154,7 +154,7 @@ fn read_call<'a>(operation: u8, octets: &mut Reader<'a>) -> Result<Call<'a>, Mal
         0x11 | 0x12 => Call::OfBroadcast(BroadcastCall::read(operation, octets)?),
         0xF0 => Call::Fresh,
         0xF1 => Call::Constants,
-        0xF2 => Call::Halve { sum: octets.i64()? },
+        0xF2 => Call::Halve { first: octets.i64()?, second: octets.i64()? },
         _ => return Err(Malformed::Operation),
     })
 }
@@ -229,7 +229,7 @@ impl<'a> Call<'a> {
             Call::OfList(ref call) => call.put(line),
             Call::OfBroadcast(ref call) => call.put(line),
             Call::Fresh | Call::Constants => {}
-            Call::Halve { sum } => put_numbers([sum as u64], line),
+            Call::Halve { first, second } => put_numbers([first as u64, second as u64], line),
         }
     }
 }

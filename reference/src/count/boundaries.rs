@@ -104,7 +104,7 @@ impl Boundaries {
             Call::Tick { debt, limit } => ledger::tick(m, debt, limit, answer, outcome, run),
             Call::OfList(ref call) => lists::list_call(m, call, answer, outcome),
             Call::OfBroadcast(ref call) => broadcast::broadcast_call(m, call, outcome),
-            Call::Halve { sum } => plain::halve(m, sum),
+            Call::Halve { first, second } => plain::halve(m, first.into(), second.into()),
             Call::Difference { .. } | Call::Fresh | Call::Constants => {}
         }
     }

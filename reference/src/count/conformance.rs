@@ -33,13 +33,8 @@ const REFUSALS: [(u8, &[Refusal]); 21] = [
     (0xF2, &[]),
 ];
 
-const MEASURE_REFUSALS: [Refusal; 5] = [
-    ArrivedBeforeSent,
-    ArrivedTooLate,
-    AnsweredBeforeReceived,
-    DelayNegative,
-    DifferenceOutOfRange,
-];
+const MEASURE_REFUSALS: [Refusal; 5] =
+    [ArrivedBeforeSent, ArrivedTooLate, AnsweredBeforeReceived, DelayNegative, FirstBelowSecond];
 
 const ASK_REFUSALS: [Refusal; 7] = [
     RecordNotLegal,
@@ -68,7 +63,7 @@ const ARRIVAL_REFUSALS: [Refusal; 17] = [
     ArrivedTooLate,
     AnsweredBeforeReceived,
     DelayNegative,
-    DifferenceOutOfRange,
+    FirstBelowSecond,
 ];
 
 const GIVE_UP_REFUSALS: [Refusal; 3] = [RecordNotLegal, NotWaiting, GaveUpTooSoon];
@@ -102,9 +97,9 @@ const BROADCAST_ARRIVAL_REFUSALS: [Refusal; 7] = [
 ];
 
 /// All malformed lines and their kinds; by themselves also the wrong lengths of the ledger's, the
-/// list's and broadcast lines, the wrong flag of an alternate, what is wrong in a list's records
-/// and in a broadcast line, and a list of ten.
-const MALFORMED: [&str; 34] = [
+/// list's, broadcast and halve lines, the wrong flag of an alternate, what is wrong in a list's
+/// records and in a broadcast line, and a list of ten.
+const MALFORMED: [&str; 36] = [
     "",
     "-empty",
     "-odd",
@@ -128,6 +123,8 @@ const MALFORMED: [&str; 34] = [
     "-length-11-long",
     "-length-12-short",
     "-length-12-long",
+    "-length-F2-short",
+    "-length-F2-long",
     "-flag",
     "-flag-alternate",
     "-flag-list",
@@ -218,7 +215,7 @@ fn kind_of(malformed: Malformed) -> &'static str {
     }
 }
 
-/// Which wrong length a line of the ledger, of a list or of broadcast has.
+/// Which wrong length a line of the ledger, of a list, of broadcast or of halving has.
 fn kind_of_length(line: &[u8]) -> Option<&'static str> {
     let (&operation, rest) = line.split_first()?;
     // A list without its count is too short.
@@ -238,6 +235,8 @@ fn kind_of_length(line: &[u8]) -> Option<&'static str> {
         (0x11, true) => Some("-length-11-long"),
         (0x12, false) => Some("-length-12-short"),
         (0x12, true) => Some("-length-12-long"),
+        (0xF2, false) => Some("-length-F2-short"),
+        (0xF2, true) => Some("-length-F2-long"),
         _ => None,
     }
 }

@@ -25,7 +25,7 @@ const ARRIVAL_REFUSALS: [Refusal; 16] = [
     ArrivedTooLate,
     AnsweredBeforeReceived,
     DelayNegative,
-    DifferenceOutOfRange,
+    FirstBelowSecond,
 ];
 
 const GIVE_UP_REFUSALS: [Refusal; 2] = [NotWaiting, GaveUpTooSoon];

@@ -72,8 +72,8 @@ const FAULTS: [Fault; 21] = [
     Fault::By(AnsweredBeforeReceived),
     Fault::By(DelayNegative),
     Fault::By(DelayNegative),
-    Fault::By(DifferenceOutOfRange),
-    Fault::By(DifferenceOutOfRange),
+    Fault::By(FirstBelowSecond),
+    Fault::By(FirstBelowSecond),
 ];
 
 /// An arrival's T4 and packet.

@@ -1,7 +1,7 @@
 //! Replies with a fault, each refused by a wanted number, or made a kiss.
 
 use super::packets::kiss_code;
-use super::replies::{QUARTER, ROOT_SECOND, Reply};
+use super::replies::{ROOT_SECOND, Reply};
 use super::timestamps::timestamp;
 use crate::packet::Fields;
 use crate::random::Random;
@@ -82,16 +82,13 @@ fn forward(r: &mut Random, least: u64) -> u64 {
     }
 }
 
-/// A first difference out of range, or one that puts the second out of range, given the delay.
-fn difference_out_of_range(r: &mut Random, delay: i64) -> i64 {
-    match r.below(8) {
-        0 | 1 => QUARTER,
-        2 => -QUARTER - 1,
-        // Only the second difference is too far.
-        3 | 4 => (-QUARTER - 1).wrapping_add(delay),
-        5 => QUARTER + r.below(LIMIT) as i64,
-        6 => i64::MIN,
-        _ => QUARTER.wrapping_add(r.below(1 << 63) as i64),
+/// Units that P is above -2^63, fewer than the delay, so that Q lies across the half circle.
+fn first_below_second(r: &mut Random, delay: u64) -> u64 {
+    match r.below(4) {
+        0 => 0,
+        // Q is 2^63 - 1.
+        1 => delay - 1,
+        _ => r.below(delay),
     }
 }
 
@@ -100,11 +97,17 @@ fn make_delay_negative(r: &mut Random, t1: u64, reply: &mut Reply) {
     reply.fields.transmit = reply.fields.receive.wrapping_add(forward(r, elapsed + 1));
 }
 
-fn make_difference_out_of_range(r: &mut Random, t1: u64, reply: &mut Reply) {
+fn make_first_below_second(r: &mut Random, t1: u64, reply: &mut Reply) {
     let fields = &mut reply.fields;
-    let hold = fields.transmit.wrapping_sub(fields.receive);
-    let delay = reply.t4.wrapping_sub(t1).wrapping_sub(hold) as i64;
-    fields.receive = t1.wrapping_add(difference_out_of_range(r, delay) as u64);
+    let mut hold = fields.transmit.wrapping_sub(fields.receive);
+    // Without a delay P and Q are equal, so there must be one.
+    match reply.t4.wrapping_sub(t1) {
+        0 if hold == 0 => reply.t4 = t1.wrapping_add(1),
+        elapsed if elapsed == hold => hold -= 1,
+        _ => {}
+    }
+    let delay = reply.t4.wrapping_sub(t1).wrapping_sub(hold);
+    fields.receive = t1.wrapping_add(1 << 63).wrapping_add(first_below_second(r, delay));
     fields.transmit = fields.receive.wrapping_add(hold);
 }
 
@@ -125,7 +128,7 @@ fn add_time_fault(r: &mut Random, refusal: Refusal, t1: u64, reply: &mut Reply) 
         ArrivedTooLate => reply.t4 = t1.wrapping_add(forward(r, LIMIT + 1)),
         AnsweredBeforeReceived => fields.transmit = fields.receive.wrapping_sub(backward(r)),
         DelayNegative => make_delay_negative(r, t1, reply),
-        DifferenceOutOfRange => make_difference_out_of_range(r, t1, reply),
+        FirstBelowSecond => make_first_below_second(r, t1, reply),
         _ => {}
     }
 }
@@ -191,7 +194,7 @@ mod tests {
         ArrivedTooLate,
         AnsweredBeforeReceived,
         DelayNegative,
-        DifferenceOutOfRange,
+        FirstBelowSecond,
     ];
 
     #[test]

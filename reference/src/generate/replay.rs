@@ -67,7 +67,7 @@ const FAULTS: [Fault; 17] = [
     Fault::By(AnsweredBeforeReceived),
     Fault::By(DelayNegative),
     Fault::By(DelayNegative),
-    Fault::By(DifferenceOutOfRange),
+    Fault::By(FirstBelowSecond),
 ];
 
 impl Gateway {

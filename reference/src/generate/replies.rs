@@ -6,8 +6,8 @@ use crate::packet::Fields;
 use crate::random::Random;
 use crate::timestamp::{LIMIT, SECOND};
 
-/// P and Q lie from minus this to one below this.
-pub const QUARTER: i64 = 1 << 62;
+/// P and Q of about this size have a sum about where it leaves 64 bits.
+const QUARTER: i64 = 1 << 62;
 /// One second of root delay or root dispersion.
 pub const ROOT_SECOND: u32 = 1 << 16;
 
@@ -45,19 +45,19 @@ fn hold(r: &mut Random, elapsed: u64) -> u64 {
 
 /// A first difference that passes, given the delay.
 fn first_difference(r: &mut Random, delay: i64) -> i64 {
-    match r.below(14) {
-        0 => QUARTER - 1,
-        1 => -QUARTER + delay,
-        2 => -QUARTER + delay + r.below(LIMIT) as i64,
-        3 => QUARTER - 1 - r.below(LIMIT) as i64,
+    // With this one Q is -2^63.
+    let least = i64::MIN + delay;
+    match r.below(15) {
+        0 => i64::MAX,
+        1 => least,
+        2 => least + r.below(LIMIT) as i64,
+        3 => i64::MAX - r.below(LIMIT) as i64,
         4 => 0,
         5 => delay / 2,
         6 | 7 => r.below(2 * SECOND) as i64 - SECOND as i64,
         8 | 9 => r.below(1 << 52) as i64 - (1 << 51),
-        _ => {
-            let room = (2 * QUARTER as u64) - delay as u64;
-            (-QUARTER + delay).wrapping_add(r.below(room) as i64)
-        }
+        10 => r.pick([QUARTER, -QUARTER]) + delay / 2 + r.below(5) as i64 - 2,
+        _ => i64::MAX.wrapping_sub(r.below(u64::MAX - delay as u64) as i64),
     }
 }
 

@@ -160,7 +160,7 @@ fn order_about_roots(m: &mut Marks, fields: &Fields, t1: u64, t4: u64, outcome: 
     let delay = !(0..65536).contains(&fields.root_delay);
     let dispersion = fields.root_dispersion >= 65536;
     let early = difference(t4, t1) < 0;
-    let far = measure(t1, fields.receive, fields.transmit, t4) == Err(DifferenceOutOfRange);
+    let below = measure(t1, fields.receive, fields.transmit, t4) == Err(FirstBelowSecond);
     m.see("13-before-33", outcome.by(StratumTooHigh) && delay);
     m.see("13-before-34", outcome.by(StratumTooHigh) && dispersion && !delay);
     m.see("14-before-33", outcome.by(ServerTimestampZero) && delay);
@@ -168,7 +168,7 @@ fn order_about_roots(m: &mut Marks, fields: &Fields, t1: u64, t4: u64, outcome: 
     m.see("14-before-15", outcome.by(ServerTimestampZero) && early);
     m.see("33-before-34", outcome.by(RootDelayOutOfRange) && dispersion);
     m.see("33-before-15", outcome.by(RootDelayOutOfRange) && early);
-    m.see("33-before-19", outcome.by(RootDelayOutOfRange) && far);
+    m.see("33-before-19", outcome.by(RootDelayOutOfRange) && below);
     m.see("34-before-15", outcome.by(RootDispersionTooLarge) && early);
-    m.see("34-before-19", outcome.by(RootDispersionTooLarge) && far);
+    m.see("34-before-19", outcome.by(RootDispersionTooLarge) && below);
 }

@@ -6,7 +6,8 @@ use crate::packet::Fields;
 use crate::refusal::Refusal::*;
 use crate::timestamp::difference;
 
-const FAR: i128 = 1 << 62;
+/// Half the circle: P and Q lie from minus this to one below this.
+const HALF: i128 = 1 << 63;
 
 /// The five differences of an exchange.
 struct Exchange {
@@ -37,31 +38,47 @@ fn elapsed_and_hold(m: &mut Marks, x: &Exchange, outcome: Outcome) {
     let passed = outcome.passed();
     m.see("e=0", passed && x.e == 0);
     m.see("e=-1", outcome.by(ArrivedBeforeSent) && x.e == -1);
-    m.see("e=-2^63", outcome.by(ArrivedBeforeSent) && x.e == -2 * FAR);
+    m.see("e=-2^63", outcome.by(ArrivedBeforeSent) && x.e == -HALF);
     m.see("e=2^36", passed && x.e == 1 << 36);
     m.see("e=2^36+1", outcome.by(ArrivedTooLate) && x.e == (1 << 36) + 1);
-    m.see("e=2^63-1", outcome.by(ArrivedTooLate) && x.e == 2 * FAR - 1);
+    m.see("e=2^63-1", outcome.by(ArrivedTooLate) && x.e == HALF - 1);
     m.see("h=0", passed && x.h == 0);
     m.see("h=-1", outcome.by(AnsweredBeforeReceived) && x.h == -1);
-    m.see("h=-2^63", outcome.by(AnsweredBeforeReceived) && x.h == -2 * FAR);
+    m.see("h=-2^63", outcome.by(AnsweredBeforeReceived) && x.h == -HALF);
     m.see("d=0", passed && x.d == 0 && x.e > 0);
     m.see("d=-1", outcome.by(DelayNegative) && x.d == -1);
-    m.see("h=2^63-1", outcome.by(DelayNegative) && x.h == 2 * FAR - 1);
+    m.see("h=2^63-1", outcome.by(DelayNegative) && x.h == HALF - 1);
 }
 
 fn first_and_second(m: &mut Marks, x: &Exchange, outcome: Outcome) {
     let passed = outcome.passed();
-    let far = outcome.by(DifferenceOutOfRange);
+    let below = outcome.by(FirstBelowSecond);
     let odd = (x.p + x.q) % 2 != 0;
-    m.see("P=2^62-1", passed && x.p == FAR - 1);
-    m.see("P=2^62", far && x.p == FAR);
-    m.see("P=-2^62", passed && x.p == -FAR);
-    m.see("P=-2^62-1", far && x.p == -FAR - 1);
-    m.see("Q=2^62-1", passed && x.q == FAR - 1);
-    m.see("Q=-2^62", passed && x.q == -FAR && x.p > -FAR);
-    m.see("Q=-2^62-1", far && x.q == -FAR - 1 && x.p >= -FAR);
+    ends_and_sums(m, x.p, x.q, passed);
+    m.see("Q=-2^63-d=2^36", passed && x.q == -HALF && x.d == 1 << 36);
+    m.see("19-d=1", below && x.d == 1);
+    m.see("19-P=-2^63", below && x.p == -HALF && x.d > 1);
+    m.see("19-Q=2^63-1", below && x.q == HALF - 1 && x.d > 1);
+    m.see("19-Q=2^63-1-d=2^36", below && x.q == HALF - 1 && x.d == 1 << 36);
     m.see("half=1", passed && odd);
     m.see("half=1-below-zero", passed && odd && x.p + x.q < 0);
+}
+
+/// P and Q at the ends of their range, alone and together, and sums about where they leave 64 bits.
+fn ends_and_sums(m: &mut Marks, p: i128, q: i128, held: bool) {
+    let sums = [
+        ("P+Q=2^63-1", HALF - 1),
+        ("P+Q=2^63", HALF),
+        ("P+Q=2^64-3", 2 * HALF - 3),
+        ("P+Q=-2^63", -HALF),
+        ("P+Q=-2^63-1", -HALF - 1),
+        ("P+Q=-2^64+1", 1 - 2 * HALF),
+    ];
+    m.see("P=2^63-1", held && p == HALF - 1 && q < p);
+    m.see("Q=-2^63", held && q == -HALF && p > q);
+    m.see("P=Q=2^63-1", held && p == HALF - 1 && p == q);
+    m.see("P=Q=-2^63", held && p == -HALF && p == q);
+    sums.into_iter().for_each(|(name, sum)| m.see(name, held && p + q == sum));
 }
 
 fn wraps(m: &mut Marks, x: &Exchange, outcome: Outcome) {
@@ -76,11 +93,14 @@ fn wraps(m: &mut Marks, x: &Exchange, outcome: Outcome) {
 }
 
 fn exchange_order(m: &mut Marks, x: &Exchange, outcome: Outcome) {
-    let far = !(-FAR..FAR).contains(&x.p);
+    let below = x.p < x.q;
     m.see("15-and-17", outcome.by(ArrivedBeforeSent) && x.h < 0);
     m.see("16-and-17", outcome.by(ArrivedTooLate) && x.h < 0);
-    m.see("17-and-19", outcome.by(AnsweredBeforeReceived) && far);
-    m.see("18-and-19", outcome.by(DelayNegative) && far);
+    m.see("15-and-19", outcome.by(ArrivedBeforeSent) && below);
+    m.see("16-and-19", outcome.by(ArrivedTooLate) && below);
+    m.see("17-and-19", outcome.by(AnsweredBeforeReceived) && below);
+    m.see("18-and-19", outcome.by(DelayNegative) && below);
+    m.see("18-without-19", outcome.by(DelayNegative) && !below);
 }
 
 pub fn measure(m: &mut Marks, t: [u64; 4], outcome: Outcome) {
@@ -118,7 +138,25 @@ pub fn precision(m: &mut Marks, tick: u64, outcome: Outcome) {
     m.see_each("power-and-1-", 0..=32, |k| tick == (1 << k) + 1);
 }
 
-pub fn halve(m: &mut Marks, sum: i64) {
-    let edges = [-2, -1, 0, 1, 2, i64::MIN, i64::MIN + 1, i64::MAX, i64::MAX - 1];
-    m.see_each("sum=", edges, |edge| sum == edge);
+pub fn halve(m: &mut Marks, p: i128, q: i128) {
+    let sum = p + q;
+    ends_and_sums(m, p, q, true);
+    m.see("P=-2^63", p == -HALF && p < q);
+    m.see("Q=2^63-1", q == HALF - 1 && p < q);
+    m.see_each("P=", -2..=2, |value| p == value);
+    m.see_each("Q=", -2..=2, |value| q == value);
+    m.see_each("P+Q=", -2..=2, |value| sum == value);
+    odd(m, "", p, q, (0..HALF).contains(&sum));
+    odd(m, "below-zero-", p, q, (-HALF..0).contains(&sum));
+    odd(m, "above-64-bits-", p, q, sum >= HALF);
+    odd(m, "below-64-bits-", p, q, sum < -HALF);
+}
+
+/// Which of P and Q are odd; the names begin with the given word.
+fn odd(m: &mut Marks, word: &str, p: i128, q: i128, held: bool) {
+    let (p_odd, q_odd) = (p % 2 != 0, q % 2 != 0);
+    m.see_with(word, "none-odd", held && !p_odd && !q_odd);
+    m.see_with(word, "P-odd", held && p_odd && !q_odd);
+    m.see_with(word, "Q-odd", held && !p_odd && q_odd);
+    m.see_with(word, "both-odd", held && p_odd && q_odd);
 }

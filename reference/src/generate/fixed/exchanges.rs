@@ -120,7 +120,7 @@ fn put_roots(lines: &mut Lines) {
 
 /// A root field out of range with another fault besides, and a kiss all the same.
 fn put_roots_with_other_faults(lines: &mut Lines) {
-    let far = T + (1 << 62);
+    let half_circle = T + (1 << 63);
     let bad_delay = Fields { root_delay: -1, ..reply(T, T, T) };
     let bad_dispersion = Fields { root_dispersion: u32::MAX, ..reply(T, T, T) };
     let mut put = |t4, fields| arrival(lines, &waiting(T), t4, &fields, 48);
@@ -130,7 +130,7 @@ fn put_roots_with_other_faults(lines: &mut Lines) {
         put(T, Fields { receive: 0, ..fields });
         put(T, Fields { transmit: 0, ..fields });
         put(T - 1, fields);
-        put(T, Fields { receive: far, transmit: far, ..fields });
+        put(T + 1, Fields { receive: half_circle, transmit: half_circle, ..fields });
     }
     put(T, Fields { root_dispersion: u32::MAX, ..bad_delay });
 }

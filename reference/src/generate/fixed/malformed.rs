@@ -119,6 +119,7 @@ fn put_broadcasts(lines: &mut Lines) {
 pub fn put_lines(lines: &mut Lines) {
     put_lengths(lines, 0x0C, 17);
     put_lengths(lines, 0x0D, 16);
+    put_lengths(lines, 0xF2, 16);
     put_lists(lines);
     put_broadcasts(lines);
     let clock = u64::from_be_bytes([1; 8]);

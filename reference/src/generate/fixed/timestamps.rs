@@ -4,12 +4,15 @@ use super::clients::waiting;
 use super::exchanges::{arrival, reply};
 use super::{Lines, T, pairs};
 use crate::conformance::call::Call;
+use crate::timestamp::LIMIT;
 
 const FAR: u64 = 1 << 62;
 const BACK: u64 = T.wrapping_sub(FAR);
+/// Half a circle from T.
+const HALF: u64 = T + (1 << 63);
 
 /// T1 to T4.
-const EXCHANGES: [[u64; 4]; 17] = [
+const EXCHANGES: [[u64; 4]; 22] = [
     [T, T, T, T],
     [T, T, T, T + 1],
     [T, T, T, T + (1 << 36)],
@@ -19,9 +22,15 @@ const EXCHANGES: [[u64; 4]; 17] = [
     [T, T, T - 1, T],
     [T, T + FAR - 1, T + FAR - 1, T],
     [T, T + FAR, T + FAR, T],
+    [T, T + FAR, T + FAR, T + 1],
     [T, BACK, BACK, T],
     [T, BACK, BACK, T + 1],
     [T, BACK - 1, BACK - 1, T],
+    [T, HALF, HALF + 5, T + 5],
+    [T, HALF, HALF + 5, T + 6],
+    [T, HALF, HALF - 1, T],
+    // The delay is negative, and P is not below Q.
+    [T, HALF - 1, HALF + 5, T + 5],
     [T, T + 5, T + 5, T + 5],
     [0xFFFF_FFFA_0000_0000, 0x0000_0004_8000_0000, 0x0000_0005_8000_0000, 0xFFFF_FFFB_C000_0000],
     [0, 0, 0, 0],
@@ -29,8 +38,16 @@ const EXCHANGES: [[u64; 4]; 17] = [
     [u64::MAX - 1, u64::MAX, 1, 3],
 ];
 
+/// P and Q on one side of the half circle and on both, with each delay at its ends.
+fn about_half() -> impl Iterator<Item = [u64; 4]> {
+    const T2: [u64; 7] =
+        [HALF - 2, HALF - 1, HALF, HALF + 1, HALF + 2, HALF + LIMIT - 1, HALF + LIMIT];
+    const T4: [u64; 7] = [T - 1, T, T + 1, T + 2, T + LIMIT - 1, T + LIMIT, T + LIMIT + 1];
+    pairs(&T2, &T4).map(|(t2, t4)| [T, t2, t2, t4])
+}
+
 fn put_exchanges(lines: &mut Lines) {
-    for [t1, t2, t3, t4] in EXCHANGES {
+    for [t1, t2, t3, t4] in EXCHANGES.into_iter().chain(about_half()) {
         lines.call(Call::Measure { t1, t2, t3, t4 });
         if t1 != 0 {
             arrival(lines, &waiting(t1), t4, &reply(t1, t2, t3), 48);
@@ -46,8 +63,12 @@ fn put_differences(lines: &mut Lines) {
 }
 
 fn put_sums(lines: &mut Lines) {
-    for sum in [0, 1, 2, -1, -2, i64::MIN, i64::MIN + 1, i64::MAX] {
-        lines.call(Call::Halve { sum });
+    const FAR: i64 = 1 << 62;
+    let below = [i64::MIN, i64::MIN + 1, -FAR - 1, -FAR, 1 - FAR, -2, -1];
+    let above = [0, 1, 2, FAR - 1, FAR, FAR + 1, i64::MAX - 1, i64::MAX];
+    let both = [&below[..], &above].concat();
+    for (first, second) in pairs(&both, &both) {
+        lines.call(Call::Halve { first, second });
     }
 }
 

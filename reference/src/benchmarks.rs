@@ -1,8 +1,9 @@
-//! The work that `tests/benchmark` measures, by a given calendar: ten million conversions, and the
-//! sum of what they gave, modulo 2^32.
+//! The work that `tests/benchmark` measures, ten million times, and the sum of what it gave, modulo
+//! 2^32: conversions by a given calendar, and exchanges measured by an ordinary program.
 
 use crate::calendar::{self, Date};
 use crate::direct_calendar;
+use crate::direct_measure::{self, Measured};
 use crate::refusal::Refusal;
 
 const COUNT: u64 = 10_000_000;
@@ -47,13 +48,25 @@ fn timestamps(timestamp_of: impl Fn(&Date) -> Result<u64, Refusal>) -> u64 {
     sum_of(|i| timestamp_of(&date(i)).map(|timestamp| timestamp >> 32))
 }
 
-/// The line to be written; none for a calendar or a direction that is not known.
-pub fn line(calendar: &str, direction: &str) -> Option<String> {
-    let sum = match (calendar, direction) {
+/// The server's clock 0 to 34 years ahead, its hold 0 to 6 units, the whole trip 0 to 999.
+fn exchanges() -> u64 {
+    sum_of(|i| {
+        let sent = i * 1_000_000_007;
+        let received = sent + i * 461_168_601_842;
+        let Measured { offset, half, delay } =
+            direct_measure::measure(sent, received, received + i % 7, sent + i % 1000)?;
+        Ok(offset as u64 % 0x1_0000_0000 + u64::from(half) + delay as u64 % 0x1_0000_0000)
+    })
+}
+
+/// The line to be written; none for work that is not known.
+pub fn line(way: &str, work: &str) -> Option<String> {
+    let sum = match (way, work) {
         ("walk", "D") => dates(calendar::date_of),
         ("walk", "T") => timestamps(calendar::timestamp_of),
         ("direct", "D") => dates(direct_calendar::date_of),
         ("direct", "T") => timestamps(direct_calendar::timestamp_of),
+        ("direct", "M") => exchanges(),
         _ => return None,
     };
     Some(format!("{sum:016X}\n"))

@@ -1,15 +1,9 @@
-// Converts ten million timestamps to dates, or as many dates to timestamps, over the whole window, and writes a sum of what they gave, modulo 2^32. The first
-// character of standard input says which: D for dates, anything else for timestamps. `tests/benchmark` compares its time with that of ordinary programs.
+// Timestamps to dates and back, over the whole window.
 ghost use Prim.Native.Nat.{_<_, _^_};
 use calendar::Date;
 use calendar::DateAnswer;
 use calendar::TimestampAnswer;
-use hex_encode::put_line;
-use libc::STDIN_FILENO;
-use libc::STDOUT_FILENO;
 use timestamp::Timestamp;
-
-const COUNT: u64 = 10_000_000;
 
 // So many units from one timestamp to the next.
 const STEP: u64 = 1_844_674_407_370;
@@ -23,7 +17,7 @@ fn value_of_date(d: Date) -> u64 {
         + d.second as u64 * 2
 }
 
-fn date_value(i: u64) -> u64
+pub(crate) fn date_value(i: u64) -> u64
     requires { ⌜ i < 10000000 ⌝ }
     ensures { λ r. ⌜ r < 2 ^ 40 ⌝ }
 {
@@ -46,43 +40,11 @@ fn date_number(i: u64) -> Date {
     }
 }
 
-fn timestamp_value(i: u64) -> u64
+pub(crate) fn timestamp_value(i: u64) -> u64
     ensures { λ r. ⌜ r < 2 ^ 40 ⌝ }
 {
     match calendar::timestamp_of_date(date_number(i)) {
         TimestampAnswer::Refused(number) => number as u64,
         TimestampAnswer::Timestamp(t) => t.0 / Timestamp::SECOND,
     }
-}
-
-fn value(which: u8, i: u64) -> u64
-    requires { ⌜ i < 10000000 ⌝ }
-    ensures { λ r. ⌜ r < 2 ^ 40 ⌝ }
-{
-    if which == b'D' {
-        return date_value(i);
-    }
-    timestamp_value(i)
-}
-
-fn sum_of(which: u8) -> u64 {
-    let mut sum = 0;
-    for i in 0..COUNT {
-        sum = (sum + value(which, i)) % 0x1_0000_0000;
-    }
-    sum
-}
-
-fn put_sum(out: &mut [u8], sum: u64) -> usize {
-    let mut octets = [0u8; 8];
-    slices::write_be64(&mut octets, 0, sum);
-    put_line(out, 0, &octets)
-}
-
-fn main() {
-    let mut block = io::buffer();
-    io::read_full(STDIN_FILENO, &mut block);
-    let mut out = [0u8; 17];
-    put_sum(&mut out, sum_of(block[0]));
-    io::write_all(STDOUT_FILENO, &out);
 }

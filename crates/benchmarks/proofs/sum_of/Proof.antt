@@ -1,14 +1,14 @@
--- `calendar_benchmark::sum_of` is safe and ends: the sum stays below 2^32. Assumes nothing.
+-- `benchmarks::sum_of` is safe and ends: the sum stays below 2^32. Assumes nothing.
 use Prim.Native.Nat.{_-_, _^_, _≤_, _<_}
 use borrow.Author.Needs.{needs}
-use Rattle.calendar_benchmark.proofs.sum_of.Statement.{statement}
-use Rattle.calendar_benchmark.proofs.sum_of.Tie as tie
+use Rattle.benchmarks.proofs.sum_of.Statement.{statement}
+use Rattle.benchmarks.proofs.sum_of.Tie as tie
 
 abbrev Inv-loop : tie.InvT-loop
-Inv-loop which sum₀ i₀ sum i = (sum < 2 ^ 32) × (i ≤ 10000000)
+Inv-loop what client packet sum₀ i₀ sum i = (sum < 2 ^ 32) × (i ≤ 10000000)
 
 abbrev μ-loop : tie.MeasureT-loop
-μ-loop which sum₀ i₀ sum i = 10000000 - i
+μ-loop what client packet sum₀ i₀ sum i = 10000000 - i
 
 pub sum-of-spec : {M : Type 1} → statement M
 sum-of-spec =
