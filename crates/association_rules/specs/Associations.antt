@@ -6,6 +6,7 @@ use lib.ListN.{length, getD, set}
 use Rattle.refusals.specs.Numbers.{not-in-list, record-not-legal}
 use Rattle.ordered_tests.specs.Tests.{Tests, _if_else_, otherwise, answer, pass, kept}
 use Rattle.timestamp.specs.declared.Timestamp.{Timestamp}
+use Rattle.token.specs.declared.Token.{Token}
 use Rattle.reply_checks.specs.declared.ArrivalAnswer.{ArrivalAnswer}
 use Rattle.client.specs.declared.Client.{Client}
 use Rattle.client.specs.declared.CallAnswer.{CallAnswer}
@@ -69,15 +70,15 @@ calledFor list at inUse called = record {
 }
 
 -- ask, in a buffer of so many octets
-unfoldable pub askedFor : List Client → (at inUse room version : ℕ) → Timestamp → ℕ → ListCalled
-askedFor list at inUse room version clock uptime = calledFor list at inUse (afterAsk (association list at) room version clock uptime)
+unfoldable pub askedFor : List Client → (at inUse room version : ℕ) → Timestamp → Token → ℕ → ListCalled
+askedFor list at inUse room version clock token uptime = calledFor list at inUse (afterAsk (association list at) room version clock token uptime)
 
-unfoldable pub listAfterAsk : List Client → (at inUse room version : ℕ) → Timestamp → ℕ → List Client
-listAfterAsk list at inUse room version clock uptime = listAfter list at inUse (afterAsk (association list at) room version clock uptime .client)
+unfoldable pub listAfterAsk : List Client → (at inUse room version : ℕ) → Timestamp → Token → ℕ → List Client
+listAfterAsk list at inUse room version clock token uptime = listAfter list at inUse (afterAsk (association list at) room version clock token uptime .client)
 
-unfoldable pub bufferAfterAsk : List Client → (at inUse : ℕ) → List ℕ → ℕ → Timestamp → ℕ → List ℕ
-bufferAfterAsk list at inUse buffer version clock uptime =
-    kept (listTests list at inUse pass) buffer (afterAskBuffer (association list at) buffer version clock uptime)
+unfoldable pub bufferAfterAsk : List Client → (at inUse : ℕ) → List ℕ → ℕ → Timestamp → Token → ℕ → List ℕ
+bufferAfterAsk list at inUse buffer version clock token uptime =
+    kept (listTests list at inUse pass) buffer (afterAskBuffer (association list at) buffer version clock token uptime)
 
 -- give up
 unfoldable pub gaveUpFor : List Client → (at inUse uptime : ℕ) → ListCalled

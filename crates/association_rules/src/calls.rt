@@ -18,6 +18,7 @@ use client::Called;
 use client::Client;
 use reply_checks::ArrivalAnswer;
 use timestamp::Timestamp;
+use token::Token;
 
 impl Table {
     fn not_called(self, in_use: usize, number: u8) -> CallEffect
@@ -53,17 +54,18 @@ impl Table {
         buffer: &mut [u8],
         version: u8,
         clock: Timestamp,
+        token: Token,
         uptime: u64,
     ) -> CallEffect
-        ensures effect { λ r. ⌜ r ≡ callEffect self at in_use (afterAsk (association (self .records) at) (length (now (buffer .entry))) version clock uptime) ⌝ }
-        ensures buffer { λ _. ⌜ now (buffer .exit) ≡ kept (tableTests self at in_use pass) (now (buffer .entry)) (afterAskBuffer (association (self .records) at) (now (buffer .entry)) version clock uptime) ⌝ }
+        ensures effect { λ r. ⌜ r ≡ callEffect self at in_use (afterAsk (association (self .records) at) (length (now (buffer .entry))) version clock token uptime) ⌝ }
+        ensures buffer { λ _. ⌜ now (buffer .exit) ≡ kept (tableTests self at in_use pass) (now (buffer .entry)) (afterAskBuffer (association (self .records) at) (now (buffer .entry)) version clock token uptime) ⌝ }
     {
         let n = self.first_refusal(at, in_use);
         if n != 0 {
             return self.not_called(in_use, n);
         }
         let c = self.record(at);
-        let called = c.ask(buffer, version, clock, uptime);
+        let called = c.ask(buffer, version, clock, token, uptime);
         let answer = called.answer;
         let client = called.client;
         CallEffect {

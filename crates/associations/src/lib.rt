@@ -9,6 +9,7 @@ use association_rules::ListCalled;
 use association_rules::Table;
 use client::Client;
 use timestamp::Timestamp;
+use token::Token;
 
 // The record of a number, or another past the end of the list.
 fn read(list: &[Client], at: usize, other: Client) -> Client
@@ -54,11 +55,12 @@ pub fn ask(
     buffer: &mut [u8],
     version: u8,
     clock: Timestamp,
+    token: Token,
     uptime: u64,
 ) -> ListCalled
-    ensures { λ r. ⌜ (r ≡ askedFor (now (list .entry)) at in_use (length (now (buffer .entry))) version clock uptime) × (now (list .exit) ≡ listAfterAsk (now (list .entry)) at in_use (length (now (buffer .entry))) version clock uptime) × (now (buffer .exit) ≡ bufferAfterAsk (now (list .entry)) at in_use (now (buffer .entry)) version clock uptime) ⌝ }
+    ensures { λ r. ⌜ (r ≡ askedFor (now (list .entry)) at in_use (length (now (buffer .entry))) version clock token uptime) × (now (list .exit) ≡ listAfterAsk (now (list .entry)) at in_use (length (now (buffer .entry))) version clock token uptime) × (now (buffer .exit) ≡ bufferAfterAsk (now (list .entry)) at in_use (now (buffer .entry)) version clock token uptime) ⌝ }
 {
-    let effect = load(list).ask(at, in_use, buffer, version, clock, uptime);
+    let effect = load(list).ask(at, in_use, buffer, version, clock, token, uptime);
     store(list, effect.at, effect.client);
     effect.result
 }

@@ -8,6 +8,7 @@ use association_rules::ListArrived;
 use association_rules::ListCalled;
 use client::Client;
 use timestamp::Timestamp;
+use token::Token;
 
 // What a call gives, with the nine records after it.
 pub struct CalledByValue {
@@ -40,10 +41,11 @@ fn ask_first(
     buffer: &mut [u8],
     version: u8,
     clock: Timestamp,
+    token: Token,
     uptime: u64,
 ) -> CalledByValue
     requires { ⌜ count ≤ 9 ⌝ }
-    ensures { λ r. ⌜ (r .result ≡ askedFor (take count records) at in_use (length (now (buffer .entry))) version clock uptime) × (r .records ≡ listAfterAsk (take count records) at in_use (length (now (buffer .entry))) version clock uptime ++ drop count records) × (now (buffer .exit) ≡ bufferAfterAsk (take count records) at in_use (now (buffer .entry)) version clock uptime) ⌝ }
+    ensures { λ r. ⌜ (r .result ≡ askedFor (take count records) at in_use (length (now (buffer .entry))) version clock token uptime) × (r .records ≡ listAfterAsk (take count records) at in_use (length (now (buffer .entry))) version clock token uptime ++ drop count records) × (now (buffer .exit) ≡ bufferAfterAsk (take count records) at in_use (now (buffer .entry)) version clock token uptime) ⌝ }
 {
     let mut list = records;
     let result = associations::ask(
@@ -53,6 +55,7 @@ fn ask_first(
         buffer,
         version,
         clock,
+        token,
         uptime,
     );
     called_by_value(result, list)
@@ -105,10 +108,11 @@ pub fn ask(
     buffer: &mut [u8],
     version: u8,
     clock: Timestamp,
+    token: Token,
     uptime: u64,
 ) -> CalledByValue
-    ensures called { λ r. ⌜ (r .result ≡ askedFor (take count records) at in_use (length (now (buffer .entry))) version clock uptime) × (r .records ≡ listAfterAsk (take count records) at in_use (length (now (buffer .entry))) version clock uptime ++ drop count records) ⌝ }
-    ensures buffer { λ _. ⌜ now (buffer .exit) ≡ bufferAfterAsk (take count records) at in_use (now (buffer .entry)) version clock uptime ⌝ }
+    ensures called { λ r. ⌜ (r .result ≡ askedFor (take count records) at in_use (length (now (buffer .entry))) version clock token uptime) × (r .records ≡ listAfterAsk (take count records) at in_use (length (now (buffer .entry))) version clock token uptime ++ drop count records) ⌝ }
+    ensures buffer { λ _. ⌜ now (buffer .exit) ≡ bufferAfterAsk (take count records) at in_use (now (buffer .entry)) version clock token uptime ⌝ }
 {
     ask_first(
         records,
@@ -118,6 +122,7 @@ pub fn ask(
         buffer,
         version,
         clock,
+        token,
         uptime,
     )
 }

@@ -15,7 +15,14 @@ impl Client {
             return ArrivalAnswer::Refused(refusals::RECORD_NOT_LEGAL);
         }
         let phase = self.phase;
-        reply_checks::check_packet(phase.is_waiting(), self.transmit, self.version, packet, t4)
+        reply_checks::check_packet(
+            phase.is_waiting(),
+            self.t1,
+            self.token,
+            self.version,
+            packet,
+            t4,
+        )
     }
 
     // A kiss: the client stops where an alternate server exists, and otherwise backs off (RFC 4330, section 8).

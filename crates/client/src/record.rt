@@ -5,6 +5,7 @@ use crate::Client;
 use crate::Phase;
 use ordered_tests::between;
 use timestamp::Timestamp;
+use token::Token;
 
 impl Phase {
     pub(crate) fn is_idle(self) -> bool
@@ -45,7 +46,8 @@ impl Client {
     {
         Client {
             phase: Phase::Idle,
-            transmit: Timestamp::ZERO,
+            t1: Timestamp::ZERO,
+            token: Token::ZERO,
             version: 0,
             asked: false,
             uptime: 0,
@@ -57,9 +59,11 @@ impl Client {
         ensures { λ r. ⌜ r ≡ isFresh self ⌝ }
     {
         let phase = self.phase;
-        let transmit = self.transmit;
+        let t1 = self.t1;
+        let token = self.token;
         phase.is_idle()
-            & transmit.is_zero()
+            & t1.is_zero()
+            & token.is_zero()
             & (self.version == 0)
             & !self.asked
             & (self.uptime == 0)
@@ -71,11 +75,13 @@ impl Client {
     {
         let phase = self.phase;
         let waiting = phase.is_waiting();
-        let transmit = self.transmit;
-        let zero = transmit.is_zero();
+        let t1 = self.t1;
+        let token = self.token;
+        let no_t1 = t1.is_zero();
+        let no_token = token.is_zero();
         !between(6, 14, self.exponent)
-            | (waiting & (zero | !between(1, 4, self.version)))
-            | (!waiting & !(zero & (self.version == 0)))
+            | (waiting & (no_t1 | no_token | !between(1, 4, self.version)))
+            | (!waiting & !(no_t1 & no_token & (self.version == 0)))
             | (!self.asked & !self.is_fresh())
     }
 
@@ -85,7 +91,8 @@ impl Client {
     {
         Client {
             phase,
-            transmit: Timestamp::ZERO,
+            t1: Timestamp::ZERO,
+            token: Token::ZERO,
             version: 0,
             asked: self.asked,
             uptime: self.uptime,

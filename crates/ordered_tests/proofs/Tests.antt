@@ -149,6 +149,14 @@ module _ {A B : Type 0} where
   carried f say (a when false else rest) = carried f say rest
   carried f say (otherwise a) = refl
 
+  -- and what is left of a state or a buffer does not depend on it
+  pub kept-carried : {C : Type 0} (f : A → B) (t : Tests A) (old new : C) → kept (carry f t) old new ≡ kept t old new
+  kept-carried f (n if true else rest) old new = refl
+  kept-carried f (n if false else rest) old new = kept-carried f rest old new
+  kept-carried f (a when true else rest) old new = refl
+  kept-carried f (a when false else rest) old new = kept-carried f rest old new
+  kept-carried f (otherwise a) old new = refl
+
   -- the tests of the first table, then the second one
   abbrev pub before : Tests A → Tests B → Tests B
   before (n if b else rest) then = n if b else before rest then

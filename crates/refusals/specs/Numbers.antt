@@ -168,6 +168,10 @@ broadcast-transmit-zero = 40
 abbrev pub poll-out-of-range : ℕ
 poll-out-of-range = 41
 
+-- token zero
+abbrev pub token-zero : ℕ
+token-zero = 42
+
 -- replay line malformed
 abbrev pub line-malformed : ℕ
 line-malformed = 64
@@ -216,6 +220,7 @@ numbers =
     ∷ broadcast-stratum-wrong
     ∷ broadcast-transmit-zero
     ∷ poll-out-of-range
+    ∷ token-zero
     ∷ line-malformed
     ∷ []
 

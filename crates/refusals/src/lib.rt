@@ -125,11 +125,14 @@ pub const BROADCAST_TRANSMIT_ZERO: u8 = 40;
 // Set poll not 4 to 14.
 pub const POLL_OUT_OF_RANGE: u8 = 41;
 
+// Token zero.
+pub const TOKEN_ZERO: u8 = 42;
+
 // Replay line malformed.
 pub const LINE_MALFORMED: u8 = 64;
 
 // All of them, in the order of the rules' table.
-pub fn numbers() -> [u8; 42]
+pub fn numbers() -> [u8; 43]
     ensures { λ r. ⌜ r ≡ numbers ⌝ }
 {
     [
@@ -174,6 +177,7 @@ pub fn numbers() -> [u8; 42]
         BROADCAST_STRATUM_WRONG,
         BROADCAST_TRANSMIT_ZERO,
         POLL_OUT_OF_RANGE,
+        TOKEN_ZERO,
         LINE_MALFORMED,
     ]
 }

@@ -53,7 +53,7 @@ too-long c (octets xs) = go (leb (length xs) 85) refl
   where
     go : (t : Bool) → leb (length xs) 85 ≡ t → answeredFrame c (cond t (octets xs) malformed) ≡ answered c (callOf xs)
     go true e = refl
-    go false e = let h = leb-false (length xs) 85 e in rw (le-leb 17 (length xs) (omega arith), lt-leb (length xs) 17 (omega arith), e)
+    go false e = let h = leb-false (length xs) 85 e in rw (le-leb 25 (length xs) (omega arith), lt-leb (length xs) 25 (omega arith), le-leb 17 (length xs) (omega arith), lt-leb (length xs) 17 (omega arith), e)
 
 -- a line and its buffer after the characters since the last line feed, and a replay with such a line
 abbrev held : List ℕ → List ℕ → Held

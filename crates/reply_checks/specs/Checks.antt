@@ -1,4 +1,4 @@
--- The checks of a reply to the request with this transmit timestamp and version (docs/RULES.md, "The client").
+-- The checks of a reply to the request that was sent at T1 with this token and version (docs/RULES.md, "The client").
 use Prim.Native.Nat.{ℕ}
 use mathlib.Core.Bool.{Bool, not}
 use mathlib.Core.List.{List}
@@ -12,14 +12,15 @@ use Rattle.offset.specs.Offset.{offsetTests}
 use Rattle.packet.specs.declared.Fields.{Fields}
 use Rattle.packet.specs.Packet.{wrongLength, fieldsOf}
 use Rattle.kiss.specs.Kiss.{rowOf}
+use Rattle.token.specs.declared.Token.{Token}
 use Rattle.sanity.specs.Sanity.{headerTests, rootTests}
 use Rattle.reply_checks.specs.declared.ArrivalAnswer.{ArrivalAnswer}
 use Rattle.reply_checks.specs.declared.ArrivalAnswer.the-variants.{Refused, Accepted, Kiss}
 
 -- the packet answers the request; then the rest
-abbrev pub matchTests : {A : Type 0} → Timestamp → ℕ → Fields → Tests A → Tests A
-matchTests transmit version f rest =
-    originate-mismatch if not (eqb (f .originate .0) (transmit .0)) else
+abbrev pub matchTests : {A : Type 0} → Token → ℕ → Fields → Tests A → Tests A
+matchTests token version f rest =
+    originate-mismatch if not (eqb (f .originate .0) (token .0)) else
     reply-mode-wrong if not (eqb (f .mode) 4) else
     version-mismatch if not (eqb (f .version) version) else
     rest
@@ -28,28 +29,28 @@ abbrev pub fromOffset : OffsetAnswer → ArrivalAnswer
 fromOffset (OffsetAnswer.Refused n) = Refused n
 fromOffset (OffsetAnswer.Measured offset half delay) = Accepted offset half delay
 
--- T1 is the request's transmit timestamp, T2 and T3 are the receive and the transmit timestamp of the reply
-unfoldable pub checkTests : Timestamp → ℕ → Fields → Timestamp → Tests ArrivalAnswer
-checkTests transmit version f t4 =
-    matchTests transmit version f (
+-- T2 and T3 are the receive and the transmit timestamp of the reply
+unfoldable pub checkTests : Timestamp → Token → ℕ → Fields → Timestamp → Tests ArrivalAnswer
+checkTests t1 token version f t4 =
+    matchTests token version f (
     Kiss (f .identifier) (rowOf (f .identifier)) when eqb (f .stratum) 0 else
     headerTests f t4 (
     rootTests f (
-    carry fromOffset (offsetTests (t4 since transmit) (f .transmit since f .receive) (f .receive since transmit) (f .transmit since t4)))))
+    carry fromOffset (offsetTests (t4 since t1) (f .transmit since f .receive) (f .receive since t1) (f .transmit since t4)))))
 
-unfoldable pub checked : Timestamp → ℕ → Fields → Timestamp → ArrivalAnswer
-checked transmit version f t4 = answer Refused (checkTests transmit version f t4)
+unfoldable pub checked : Timestamp → Token → ℕ → Fields → Timestamp → ArrivalAnswer
+checked t1 token version f t4 = answer Refused (checkTests t1 token version f t4)
 
 -- a client that waits checks the reply
-unfoldable pub waitingTests : Bool → Timestamp → ℕ → Fields → Timestamp → Tests ArrivalAnswer
-waitingTests waiting transmit version f t4 =
+unfoldable pub waitingTests : Bool → Timestamp → Token → ℕ → Fields → Timestamp → Tests ArrivalAnswer
+waitingTests waiting t1 token version f t4 =
     not-waiting if not waiting else
-    checkTests transmit version f t4
+    checkTests t1 token version f t4
 
-abbrev pub packetTests : Bool → Timestamp → ℕ → List ℕ → Timestamp → Tests ArrivalAnswer
-packetTests waiting transmit version packet t4 =
+abbrev pub packetTests : Bool → Timestamp → Token → ℕ → List ℕ → Timestamp → Tests ArrivalAnswer
+packetTests waiting t1 token version packet t4 =
     packet-length-wrong if wrongLength packet else
-    waitingTests waiting transmit version (fieldsOf packet) t4
+    waitingTests waiting t1 token version (fieldsOf packet) t4
 
-unfoldable pub checkedPacket : Bool → Timestamp → ℕ → List ℕ → Timestamp → ArrivalAnswer
-checkedPacket waiting transmit version packet t4 = answer Refused (packetTests waiting transmit version packet t4)
+unfoldable pub checkedPacket : Bool → Timestamp → Token → ℕ → List ℕ → Timestamp → ArrivalAnswer
+checkedPacket waiting t1 token version packet t4 = answer Refused (packetTests waiting t1 token version packet t4)

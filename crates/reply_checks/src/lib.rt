@@ -1,4 +1,4 @@
-// The checks of a server's reply to the request with this transmit timestamp and version (RFC 4330, section 5).
+// The checks of a server's reply to the request that was sent at T1 with this token and version (RFC 4330, section 5).
 ghost use mathlib.Core.Path.{_≡_};
 ghost use Rattle.ordered_tests.specs.Tests.{number, answer, pass};
 ghost use Rattle.reply_checks.specs.declared.ArrivalAnswer.{ArrivalAnswer};
@@ -7,6 +7,7 @@ use offset::OffsetAnswer;
 use packet::Fields;
 use packet::FieldsAnswer;
 use timestamp::Timestamp;
+use token::Token;
 
 // What an arrival answers. `code` is the reference identifier.
 pub enum ArrivalAnswer {
@@ -16,10 +17,10 @@ pub enum ArrivalAnswer {
 }
 
 // Whether the packet answers the request.
-fn first_refusal(transmit: Timestamp, version: u8, f: Fields) -> u8
-    ensures { λ r. ⌜ r ≡ number (matchTests transmit version f pass) ⌝ }
+fn first_refusal(token: Token, version: u8, f: Fields) -> u8
+    ensures { λ r. ⌜ r ≡ number (matchTests token version f pass) ⌝ }
 {
-    if f.originate.0 != transmit.0 {
+    if f.originate.0 != token.0 {
         return refusals::ORIGINATE_MISMATCH;
     }
     if f.mode != 4 {
@@ -49,10 +50,10 @@ fn from_offset(answer: OffsetAnswer) -> ArrivalAnswer
 }
 
 // A reply of stratum 0 is a kiss-o'-death packet (RFC 4330, section 8).
-fn check(transmit: Timestamp, version: u8, f: Fields, t4: Timestamp) -> ArrivalAnswer
-    ensures { λ r. ⌜ r ≡ checked transmit version f t4 ⌝ }
+fn check(t1: Timestamp, token: Token, version: u8, f: Fields, t4: Timestamp) -> ArrivalAnswer
+    ensures { λ r. ⌜ r ≡ checked t1 token version f t4 ⌝ }
 {
-    let n = first_refusal(transmit, version, f);
+    let n = first_refusal(token, version, f);
     if n != 0 {
         return ArrivalAnswer::Refused(n);
     }
@@ -65,36 +66,38 @@ fn check(transmit: Timestamp, version: u8, f: Fields, t4: Timestamp) -> ArrivalA
     if n != 0 {
         return ArrivalAnswer::Refused(n);
     }
-    from_offset(offset::measure(transmit, f.receive, f.transmit, t4))
+    from_offset(offset::measure(t1, f.receive, f.transmit, t4))
 }
 
 // The checks of a packet that came in at the clock reading T4; `waiting` says whether there is a request.
 pub fn check_packet(
     waiting: bool,
-    transmit: Timestamp,
+    t1: Timestamp,
+    token: Token,
     version: u8,
     packet: &[u8],
     t4: Timestamp,
 ) -> ArrivalAnswer
-    ensures { λ r. ⌜ r ≡ checkedPacket waiting transmit version (now (packet .entry)) t4 ⌝ }
+    ensures { λ r. ⌜ r ≡ checkedPacket waiting t1 token version (now (packet .entry)) t4 ⌝ }
 {
     match packet::read(packet) {
         FieldsAnswer::Refused(n) => ArrivalAnswer::Refused(n),
-        FieldsAnswer::Fields(f) => check_waiting(waiting, transmit, version, f, t4),
+        FieldsAnswer::Fields(f) => check_waiting(waiting, t1, token, version, f, t4),
     }
 }
 
 fn check_waiting(
     waiting: bool,
-    transmit: Timestamp,
+    t1: Timestamp,
+    token: Token,
     version: u8,
     f: Fields,
     t4: Timestamp,
 ) -> ArrivalAnswer
-    ensures { λ r. ⌜ r ≡ answer ArrivalAnswer.Refused (waitingTests waiting transmit version f t4) ⌝ }
+    ensures { λ r. ⌜ r ≡ answer ArrivalAnswer.Refused (waitingTests waiting t1 token version f t4) ⌝ }
 {
     if !waiting {
         return ArrivalAnswer::Refused(refusals::NOT_WAITING);
     }
-    check(transmit, version, f, t4)
+    check(t1, token, version, f, t4)
 }

@@ -8,15 +8,15 @@ use lib.ListN.{drop}
 use Rattle.arithmetic.specs.Modulo.{_modulo_}
 use Rattle.arithmetic.specs.TwosComplement.{bits}
 use Rattle.arithmetic.specs.Octets.{octets}
-use Rattle.timestamp.specs.declared.Timestamp.{Timestamp}
+use Rattle.token.specs.declared.Token.{Token}
 use Rattle.packet.specs.Packet.{octetsOf}
 use Rattle.packet.proofs.Packet.{octets-written}
 use Rattle.request.specs.Request.{request, requestFields, RequestOctets}
 
-pub request-octets : (version : ℕ) (clock : Timestamp) → octetsOf (requestFields version clock) ≡ request version clock
+pub request-octets : (version : ℕ) (token : Token) → octetsOf (requestFields version token) ≡ request version token
 unfolding octetsOf octets bits _modulo_ request
-request-octets version clock = rw zero-add
+request-octets version token = rw zero-add
 
 pub request-written : RequestOctets
-request-written b version clock long small =
-    octets-written b (requestFields version clock) long (rw (le-ltb 7 version small)) ∙ ap (λ o. o ++ drop 48 b) (request-octets version clock)
+request-written b version token long small =
+    octets-written b (requestFields version token) long (rw (le-ltb 7 version small)) ∙ ap (λ o. o ++ drop 48 b) (request-octets version token)

@@ -5,14 +5,15 @@ use mathlib.Core.List.{List, _∷_, _++_}
 use lib.IntN.{pos}
 use lib.ListN.{length, drop, replicate}
 use Rattle.arithmetic.specs.Octets.{octets}
-use Rattle.timestamp.specs.declared.Timestamp.{Timestamp}
 use Rattle.timestamp.specs.Timestamp.{timestamp}
+use Rattle.token.specs.declared.Token.{Token}
+use Rattle.token.specs.Token.{carried}
 use Rattle.packet.specs.declared.Fields.{Fields}
 use Rattle.packet.specs.Packet.{packetLength, written}
 
--- all zero but the version, mode 3 and the transmit timestamp
-abbrev pub requestFields : ℕ → Timestamp → Fields
-requestFields version transmit = record {
+-- all zero but the version, mode 3 and the transmit field, which carries the token
+abbrev pub requestFields : ℕ → Token → Fields
+requestFields version token = record {
   leap = 0;
   version = version;
   mode = 3;
@@ -25,15 +26,15 @@ requestFields version transmit = record {
   reference = timestamp 0;
   originate = timestamp 0;
   receive = timestamp 0;
-  transmit = transmit;
+  transmit = carried token;
 }
 
 -- its 48 octets
-unfoldable pub request : ℕ → Timestamp → List ℕ
-request version transmit = (version * 8 + 3) ∷ replicate 39 0 ++ octets 8 (transmit .0)
+unfoldable pub request : ℕ → Token → List ℕ
+request version token = (version * 8 + 3) ∷ replicate 39 0 ++ octets 8 (token .0)
 
 -- written into a buffer that has room for them, they are followed by what stood there
 abbrev pub RequestOctets : Type 0
 RequestOctets =
-    (buffer : List ℕ) (version : ℕ) (transmit : Timestamp) → packetLength ≤ length buffer → version ≤ 7
-    → written buffer (requestFields version transmit) ≡ request version transmit ++ drop packetLength buffer
+    (buffer : List ℕ) (version : ℕ) (token : Token) → packetLength ≤ length buffer → version ≤ 7
+    → written buffer (requestFields version token) ≡ request version token ++ drop packetLength buffer

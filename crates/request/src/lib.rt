@@ -5,10 +5,11 @@ ghost use Rattle.request.specs.Request.{requestFields};
 use packet::Fields;
 use packet::WriteAnswer;
 use timestamp::Timestamp;
+use token::Token;
 
-// All zero but version, mode 3 and transmit timestamp.
-fn fields(version: u8, transmit: Timestamp) -> Fields
-    ensures { λ r. ⌜ r ≡ requestFields version transmit ⌝ }
+// All zero but version, mode 3 and the transmit field, which carries the token.
+fn fields(version: u8, token: Token) -> Fields
+    ensures { λ r. ⌜ r ≡ requestFields version token ⌝ }
 {
     Fields {
         leap: 0,
@@ -23,14 +24,14 @@ fn fields(version: u8, transmit: Timestamp) -> Fields
         reference: Timestamp::ZERO,
         originate: Timestamp::ZERO,
         receive: Timestamp::ZERO,
-        transmit,
+        transmit: token.field(),
     }
 }
 
 // Writes the 48 octets of a request into the buffer, as `packet::write` does.
-pub fn write(buffer: &mut [u8], version: u8, transmit: Timestamp) -> WriteAnswer
-    ensures answer { λ r. ⌜ r ≡ writeAnswer (now (buffer .entry)) (requestFields version transmit) ⌝ }
-    ensures buffer { λ _. ⌜ now (buffer .exit) ≡ written (now (buffer .entry)) (requestFields version transmit) ⌝ }
+pub fn write(buffer: &mut [u8], version: u8, token: Token) -> WriteAnswer
+    ensures answer { λ r. ⌜ r ≡ writeAnswer (now (buffer .entry)) (requestFields version token) ⌝ }
+    ensures buffer { λ _. ⌜ now (buffer .exit) ≡ written (now (buffer .entry)) (requestFields version token) ⌝ }
 {
-    packet::write(buffer, fields(version, transmit))
+    packet::write(buffer, fields(version, token))
 }

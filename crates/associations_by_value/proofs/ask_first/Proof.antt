@@ -50,6 +50,9 @@ use borrow.Table.Elements.{same-len}
 use Rattle.timestamp.specs.declared.Timestamp.{Timestamp}
 use Rattle.timestamp.proofs.Timestamp as S
 use Rattle.timestamp.proofs.Timestamp.Laws as S′
+use Rattle.token.specs.declared.Token.{Token}
+use Rattle.token.proofs.Token as K
+use Rattle.token.proofs.Token.Laws as K′
 use Rattle.client.specs.declared.Client.{Client}
 use Rattle.client.proofs.Client as T
 use Rattle.client.proofs.Client.Laws as T′
@@ -81,11 +84,11 @@ abbrev Nine : RattleType
 Nine = Array R 9
 
 abbrev stayed : Stays (ask.ended .signature .params) (ask.ended .kept)
-stayed = (stay-none (λ _. Nine) yes, (stay-none (λ _. usize) yes, (stay-none (λ _. usize) yes, (stay-none (λ _. usize) yes, (gave-slice (0 ∷ []) tt (plain (λ _. u8)), (stay-none (λ _. u8) yes, (stay-none (λ _. S.the-row) yes, (stay-none (λ _. u64) yes, tt))))))))
+stayed = (stay-none (λ _. Nine) yes, (stay-none (λ _. usize) yes, (stay-none (λ _. usize) yes, (stay-none (λ _. usize) yes, (gave-slice (0 ∷ []) tt (plain (λ _. u8)), (stay-none (λ _. u8) yes, (stay-none (λ _. S.the-row) yes, (stay-none (λ _. K.the-row) yes, (stay-none (λ _. u64) yes, tt)))))))))
 
 -- where the local _i stands in the context, behind the token and what the buffer owns
 abbrev slot : ℕ → ℕ
-slot i = 32 - 2 * i
+slot i = 34 - 2 * i
 
 -- the contracts that the proof cites
 module _ {M : Type 1} (𝓤 : URA M) (H : Heap 𝓤) (A : Atoms 𝓤) (mem : Memory → SProp 𝓤) (run : Routine → Fun 𝓤) where
@@ -96,13 +99,13 @@ module _ {M : Type 1} (𝓤 : URA M) (H : Heap 𝓤) (A : Atoms 𝓤) (mem : Mem
   Both = tripleOf 𝓤 H A both.signature (both.spec 𝓤 H A mem run)
 
 module _ {M : Type 1} (𝓤 : URA M) (H : Heap 𝓤) (A : Atoms 𝓤) (W : Given 𝓤 H A) (mem : Memory → SProp 𝓤) (run : Routine → Fun 𝓤)
-    (κ : Lft) (q : Share) (ys : List Client) (k : ℕ) (i : ℕ) (used : ℕ) (x′ : RefT (List ℕ)) (version : ℕ) (clock : Timestamp) (up : ℕ)
-    (ys-is : Is Nine ys (array-vals vals ys)) (k-fits : k < 2 ^ 64) (i-fits : i < 2 ^ 64) (used-fits : used < 2 ^ 64) (room′ : Room u8 (length (x′ .now))) (version-fits : version < 2 ^ 8) (clock-is : Is S.the-row clock (LL.val S.the-type S′.the-laws clock ∷ [])) (up-fits : up < 2 ^ 64) (few : k ≤ 9) where
+    (κ : Lft) (q : Share) (ys : List Client) (k : ℕ) (i : ℕ) (used : ℕ) (x′ : RefT (List ℕ)) (version : ℕ) (clock : Timestamp) (token : Token) (up : ℕ)
+    (ys-is : Is Nine ys (array-vals vals ys)) (k-fits : k < 2 ^ 64) (i-fits : i < 2 ^ 64) (used-fits : used < 2 ^ 64) (room′ : Room u8 (length (x′ .now))) (version-fits : version < 2 ^ 8) (clock-is : Is S.the-row clock (LL.val S.the-type S′.the-laws clock ∷ [])) (token-is : Is K.the-row token (LL.val K.the-type K′.the-laws token ∷ [])) (up-fits : up < 2 ^ 64) (few : k ≤ 9) where
   abbrev Arg : Type 0
-  Arg = List Client × (ℕ × (ℕ × (ℕ × (RefT (List ℕ) × (ℕ × (Timestamp × (ℕ × Unit {0})))))))
+  Arg = List Client × (ℕ × (ℕ × (ℕ × (RefT (List ℕ) × (ℕ × (Timestamp × (Token × (ℕ × Unit {0}))))))))
 
   abbrev a : Arg
-  a = (ys, (k, (i, (used, (x′, (version, (clock, (up, tt))))))))
+  a = (ys, (k, (i, (used, (x′, (version, (clock, (token, (up, tt)))))))))
 
   abbrev v : List Client → Val
   v l = only (array-vals vals l)
@@ -113,8 +116,11 @@ module _ {M : Type 1} (𝓤 : URA M) (H : Heap 𝓤) (A : Atoms 𝓤) (W : Given
   abbrev time : Val
   time = LL.val S.the-type S′.the-laws clock
 
+  abbrev mark : Val
+  mark = LL.val K.the-type K′.the-laws token
+
   abbrev at : Vals ask.signature (κ, tt)
-  at = (v ys ∷ [], (vint w64 k ∷ [], (vint w64 i ∷ [], (vint w64 used ∷ [], (s′ ∷ [], (vint w8 version ∷ [], (time ∷ [], (vint w64 up ∷ [], tt))))))))
+  at = (v ys ∷ [], (vint w64 k ∷ [], (vint w64 i ∷ [], (vint w64 used ∷ [], (s′ ∷ [], (vint w8 version ∷ [], (time ∷ [], (mark ∷ [], (vint w64 up ∷ [], tt)))))))))
 
   abbrev Buffer : Fml
   Buffer = MutSlice (named 1) κ u8 .own x′ (s′ ∷ [])
@@ -125,7 +131,7 @@ module _ {M : Type 1} (𝓤 : URA M) (H : Heap 𝓤) (A : Atoms 𝓤) (W : Given
 
   -- what the call on it says of its result, of the list's last value and of the buffer's
   abbrev Said : ListCalled → List Client → List ℕ → Type 0
-  Said c zs cs = (c ≡ askedFor lent i used (length (x′ .now)) version clock up) × (zs ≡ listAfterAsk lent i used (length (x′ .now)) version clock up) × (cs ≡ bufferAfterAsk lent i used (x′ .now) version clock up)
+  Said c zs cs = (c ≡ askedFor lent i used (length (x′ .now)) version clock token up) × (zs ≡ listAfterAsk lent i used (length (x′ .now)) version clock token up) × (cs ≡ bufferAfterAsk lent i used (x′ .now) version clock token up)
 
   abbrev Post : Val → SProp 𝓤
   Post = walkOf 𝓤 H A ask.ended stayed (ask.clauses 𝓤 H A mem run) .post (((κ, tt), (q, tt), tt, a, at), tt)
@@ -138,10 +144,11 @@ module _ {M : Type 1} (𝓤 : URA M) (H : Heap 𝓤) (A : Atoms 𝓤) (W : Given
       → Is Y.the-row t (u ∷ []) → ent 𝓤 (⋆ 𝓤 H A (‵ (flft κ q) ∷ ‵ (finally u8 (x′ .name) cs) ∷ [])) (Post u)
   exits c zs cs t u e l′ e′ is =
       qed W (‵ (flft κ q) ∷ ‵ (finally u8 (x′ .name) cs) ∷ []) ∵
-      suffices ! _ (ends-at 𝓤 H A ask.ended stayed (ask.clauses 𝓤 H A mem run) W (((κ, tt), (q, tt), tt, a, at), tt) u t (tt, (tt, (tt, (tt, (cs, (tt, (tt, (tt, tt)))))))) (tt, (tt, (tt, (tt, (l′, (tt, (tt, (tt, tt))))))))) $
+      suffices ! _ (ends-at 𝓤 H A ask.ended stayed (ask.clauses 𝓤 H A mem run) W (((κ, tt), (q, tt), tt, a, at), tt) u t (tt, (tt, (tt, (tt, (cs, (tt, (tt, (tt, (tt, tt))))))))) (tt, (tt, (tt, (tt, (l′, (tt, (tt, (tt, (tt, tt)))))))))) $
       says ! (e′ .0 ∙ e .0, e′ .1 ∙ ap (λ (z : List Client). z ++ after k ys) (e .1), e .2) $
       nothing ! $ move ! (1 ∷ 0 ∷ []) $ join ! $ frame ! $ nothing ! $
       owned ! u64 (Is u64) (uint-makes 𝓤 H A W w64) up _ (refl, up-fits) $ fjoin ! $
+      owned ! K.the-row (Is K.the-row) (LL.makes K.the-type K′.the-plain 𝓤 H A) token _ token-is $ fjoin ! $
       owned ! S.the-row (Is S.the-row) (LL.makes S.the-type S′.the-plain 𝓤 H A) clock _ clock-is $ fjoin ! $
       owned ! u8 (Is u8) (uint-makes 𝓤 H A W w8) version _ (refl, version-fits) $ fjoin ! $
       move ! (1 ∷ 0 ∷ []) $ fjoin ! $
@@ -167,7 +174,7 @@ module _ {M : Type 1} (𝓤 : URA M) (H : Heap 𝓤) (A : Atoms 𝓤) (W : Given
 
   -- what is told of the parameters of `associations::ask` at exit
   abbrev Lasts : Type 0
-  Lasts = List Client × (Unit {0} × (Unit {0} × (List ℕ × (Unit {0} × (Unit {0} × (Unit {0} × Unit {0}))))))
+  Lasts = List Client × (Unit {0} × (Unit {0} × (List ℕ × (Unit {0} × (Unit {0} × (Unit {0} × (Unit {0} × Unit {0})))))))
 
   -- `associations::ask` on the first k of nine records at the block m
   module _ (m : ℕ) (nine : length ys ≡ 9) where
@@ -181,13 +188,13 @@ module _ {M : Type 1} (𝓤 : URA M) (H : Heap 𝓤) (A : Atoms 𝓤) (W : Given
     s = sliceVal (m, 0) (length lent)
 
     abbrev Given-to : Type 0
-    Given-to = RefT (List Client) × (ℕ × (ℕ × (RefT (List ℕ) × (ℕ × (Timestamp × (ℕ × Unit {0}))))))
+    Given-to = RefT (List Client) × (ℕ × (ℕ × (RefT (List ℕ) × (ℕ × (Timestamp × (Token × (ℕ × Unit {0})))))))
 
     abbrev given : ℕ → GName → Given-to
-    given ν δ = (first R (ν ∷ []) m k ys δ, (i, (used, (x′, (version, (clock, (up, tt)))))))
+    given ν δ = (first R (ν ∷ []) m k ys δ, (i, (used, (x′, (version, (clock, (token, (up, tt))))))))
 
     abbrev to : ℕ → GName → OverList 𝓤 H A mem run .Ghost
-    to ν δ = (((ν ∷ [], (κ, tt)), (fullShare, (q, tt)), tt, given ν δ, (s ∷ [], (vint w64 i ∷ [], (vint w64 used ∷ [], (s′ ∷ [], (vint w8 version ∷ [], (time ∷ [], (vint w64 up ∷ [], tt)))))))), tt)
+    to ν δ = (((ν ∷ [], (κ, tt)), (fullShare, (q, tt)), tt, given ν δ, (s ∷ [], (vint w64 i ∷ [], (vint w64 used ∷ [], (s′ ∷ [], (vint w8 version ∷ [], (time ∷ [], (mark ∷ [], (vint w64 up ∷ [], tt))))))))), tt)
 
     abbrev Own : ℕ → GName → Fml
     Own ν δ = MutSlice (named 0) (ν ∷ []) R .own (first R (ν ∷ []) m k ys δ) (s ∷ [])
@@ -197,6 +204,7 @@ module _ {M : Type 1} (𝓤 : URA M) (H : Heap 𝓤) (A : Atoms 𝓤) (W : Given
     goes ν δ =
         qed W ((‵ (flft (ν ∷ []) fullShare) ⊛ ‵ (Own ν δ)) ∷ (‵ (flft κ q) ⊛ ‵ Buffer) ∷ []) ∵ split ! $ move ! (2 ∷ []) $ split ! $ nothing ! $
         owned ! u64 (Is u64) (uint-makes 𝓤 H A W w64) up _ (refl, up-fits) $ fjoin ! $
+        owned ! K.the-row (Is K.the-row) (LL.makes K.the-type K′.the-plain 𝓤 H A) token _ token-is $ fjoin ! $
         owned ! S.the-row (Is S.the-row) (LL.makes S.the-type S′.the-plain 𝓤 H A) clock _ clock-is $ fjoin ! $
         owned ! u8 (Is u8) (uint-makes 𝓤 H A W w8) version _ (refl, version-fits) $ fjoin ! $
         move ! (2 ∷ 0 ∷ []) $ fjoin ! $
@@ -206,70 +214,71 @@ module _ {M : Type 1} (𝓤 : URA M) (H : Heap 𝓤) (A : Atoms 𝓤) (W : Given
 
   module _ (C : Calls 𝓤 H) (Λ : Loops 𝓤 H) (fm : FmC 𝓤 H (W .laws) C) (known : Triple 𝓤 (C #over-list) (OverList 𝓤 H A mem run))
       (known-both : Triple 𝓤 (C #both) (Both 𝓤 H A mem run)) where
-    walk : ent 𝓤 (onEntry 𝓤 H A ask.signature (κ, tt) (q, tt) a at) (WpFn 𝓤 H C Λ code.function (v ys ∷ vint w64 k ∷ vint w64 i ∷ vint w64 used ∷ s′ ∷ vint w8 version ∷ time ∷ vint w64 up ∷ []) Post)
+    walk : ent 𝓤 (onEntry 𝓤 H A ask.signature (κ, tt) (q, tt) a at) (WpFn 𝓤 H C Λ code.function (v ys ∷ vint w64 k ∷ vint w64 i ∷ vint w64 used ∷ s′ ∷ vint w8 version ∷ time ∷ mark ∷ vint w64 up ∷ []) Post)
     unfolding partOf
     walk =
-        qed W ((‵ (flft κ q) ⊛ ‵ ftrue) ∷ ‵ (owns (Nine ∷ usize ∷ usize ∷ usize ∷ MutSlice (named 0) κ u8 ∷ u8 ∷ S.the-row ∷ u64 ∷ []) a at) ∷ []) ∵
-        enter ! C Λ code.function (v ys ∷ vint w64 k ∷ vint w64 i ∷ vint w64 used ∷ s′ ∷ vint w8 version ∷ time ∷ vint w64 up ∷ []) _ $
+        qed W ((‵ (flft κ q) ⊛ ‵ ftrue) ∷ ‵ (owns (Nine ∷ usize ∷ usize ∷ usize ∷ MutSlice (named 0) κ u8 ∷ u8 ∷ S.the-row ∷ K.the-row ∷ u64 ∷ []) a at) ∷ []) ∵
+        enter ! C Λ code.function (v ys ∷ vint w64 k ∷ vint w64 i ∷ vint w64 used ∷ s′ ∷ vint w8 version ∷ time ∷ mark ∷ vint w64 up ∷ []) _ $
         alloc1 ! (λ l₀. alloc1 ! (λ l₁. alloc1 ! (λ l₂. alloc1 ! (λ l₃. alloc1 ! (λ l₄. alloc1 ! (λ l₅. alloc1 ! (λ l₆. alloc1 ! (λ l₇. alloc1 ! (λ l₈.
-        alloc1 ! (λ l₉. alloc1 ! (λ l₁₀. alloc1 ! (λ l₁₁. alloc1 ! (λ l₁₂. alloc1 ! (λ l₁₃. alloc1 ! (λ l₁₄. alloc1 ! (λ l₁₅. alloc0 ! $ params1 ! $
+        alloc1 ! (λ l₉. alloc1 ! (λ l₁₀. alloc1 ! (λ l₁₁. alloc1 ! (λ l₁₂. alloc1 ! (λ l₁₃. alloc1 ! (λ l₁₄. alloc1 ! (λ l₁₅. alloc1 ! (λ l₁₆. alloc0 ! $ params1 ! $
         pass1 ! (init ! (slot 1 - 2) refl (typed-array ys ys-is)) $ pass1 ! (init ! (slot 2 - 2) refl (tt, record { fits = k-fits })) $
         pass1 ! (init ! (slot 3 - 2) refl (tt, record { fits = i-fits })) $ pass1 ! (init ! (slot 4 - 2) refl (tt, record { fits = used-fits })) $
         pass1 ! (init ! (slot 5 - 2) refl (tt, (tt, (record { fits = room′ .0 }, tt)))) $
         pass1 ! (init ! (slot 6 - 2) refl (tt, record { fits = version-fits })) $
         pass1 ! (init ! (slot 7 - 2) refl (LL.lawful S.the-type S′.the-laws 𝓤 H A W .typed clock _ clock-is .0)) $
-        pass1 ! (init ! (slot 8 - 2) refl (tt, record { fits = up-fits })) $ pass0 ! $
-        move ! (33 ∷ []) $ fsplit ! $ drop ! $ fsplit ! $ drop ! $ fsplit ! $ drop ! $ fsplit ! $ drop ! $ fsplit ! $ move ! (1 ∷ []) $ drop ! $ move ! (33 ∷ []) $
+        pass1 ! (init ! (slot 8 - 2) refl (LL.lawful K.the-type K′.the-laws 𝓤 H A W .typed token _ token-is .0)) $
+        pass1 ! (init ! (slot 9 - 2) refl (tt, record { fits = up-fits })) $ pass0 ! $
+        move ! (35 ∷ []) $ fsplit ! $ drop ! $ fsplit ! $ drop ! $ fsplit ! $ drop ! $ fsplit ! $ drop ! $ fsplit ! $ move ! (1 ∷ []) $ drop ! $ move ! (35 ∷ []) $
         split ! $ move ! (1 ∷ []) $ drop ! $
-        -- [the token; what buffer owns; _15; …; _14; …; and so on to _1; …; room for _0; …]
-        sets ! (slot 9) (of-opd ! (local ! (slot 1) refl)) refl (typed-array ys ys-is) $
-        sets ! (slot 11) (addr ! (from ! (stop !))) refl (tt, tt) $
-        sets ! (slot 12) (agg ! (local ! (slot 11) refl ▸ local ! (slot 2) refl ▸ no-more !)) refl (tt, (tt, (record { fits = k-fits }, tt))) $
-        sets ! (slot 13) (behind ! (slot 5) refl refl refl refl) refl (tt, tt) $
-        sets ! (slot 14) (agg ! (local ! (slot 13) refl ▸ field-of ! (slot 5) 1 refl refl refl ▸ no-more !)) refl (tt, (tt, (record { fits = room′ .0 }, tt))) $
+        -- [the token; what buffer owns; _16; …; _16; …; and so on to _1; …; room for _0; …]
+        sets ! (slot 10) (of-opd ! (local ! (slot 1) refl)) refl (typed-array ys ys-is) $
+        sets ! (slot 12) (addr ! (from ! (stop !))) refl (tt, tt) $
+        sets ! (slot 13) (agg ! (local ! (slot 12) refl ▸ local ! (slot 2) refl ▸ no-more !)) refl (tt, (tt, (record { fits = k-fits }, tt))) $
+        sets ! (slot 14) (behind ! (slot 5) refl refl refl refl) refl (tt, tt) $
+        sets ! (slot 15) (agg ! (local ! (slot 14) refl ▸ field-of ! (slot 5) 1 refl refl refl ▸ no-more !)) refl (tt, (tt, (record { fits = room′ .0 }, tt))) $
         -- the local array, with what it owns, is taken apart into its records
-        move ! (slot 9 ∷ []) $ use1 W (‵ (cellAt fullShare (Nine .mir) (v ys ∷ []) l₉ 0)) (W .laws .at-raw fullShare (tyArray T′.mir 9) l₉ 0 (v ys)) $
+        move ! (slot 10 ∷ []) $ use1 W (‵ (cellAt fullShare (Nine .mir) (v ys ∷ []) l₁₀ 0)) (W .laws .at-raw fullShare (tyArray T′.mir 9) l₁₀ 0 (v ys)) $
         owned ! Nine (Is Nine) (array-makes 𝓤 H A W R (makes 𝓤 H A) 9) ys (v ys ∷ []) ys-is $ move ! (1 ∷ 0 ∷ []) $ fjoin ! $
-        fpack ! (List Val) (λ vs. fsep (cellAt fullShare (Nine .mir) vs l₉ 0) (Nine .own ys vs)) (v ys ∷ []) $
-        use1 W (‵ (arr-parts (shares R) 9 .part fullShare ys l₉ 0)) (array-apart 𝓤 H A W R fullShare tt 9 ys l₉ 0) $ fsplit ! $ feqL ! (λ nine.
-        rewrite ! (slot 12 + 1) (λ (n : ℕ). ‵ (fat fullShare (sliceTy (tyRef erased mut (pointee (R .written)))) l₁₂ 0 (sliceVal (l₉, 0) n)))
-        (sym (lent-length l₉ nine)) refl $
-        use1 W (‵ (cells (memory R) ys l₉ 0)) (whole-in 𝓤 H A W R ys l₉ 0) $
+        fpack ! (List Val) (λ vs. fsep (cellAt fullShare (Nine .mir) vs l₁₀ 0) (Nine .own ys vs)) (v ys ∷ []) $
+        use1 W (‵ (arr-parts (shares R) 9 .part fullShare ys l₁₀ 0)) (array-apart 𝓤 H A W R fullShare tt 9 ys l₁₀ 0) $ fsplit ! $ feqL ! (λ nine.
+        rewrite ! (slot 13 + 1) (λ (n : ℕ). ‵ (fat fullShare (sliceTy (tyRef erased mut (pointee (R .written)))) l₁₃ 0 (sliceVal (l₁₀, 0) n)))
+        (sym (lent-length l₁₀ nine)) refl $
+        use1 W (‵ (cells (memory R) ys l₁₀ 0)) (whole-in 𝓤 H A W R ys l₁₀ 0) $
         -- the first k of them are lent for a lifetime of the call
         lft-new ! tt (λ ν. move ! (1 ∷ []) $
-        use1 W (later (some (λ (δ : GName). ‵ (Own l₉ nine ν δ) ⊛ ‵ (Kept R (ν ∷ []) l₉ k ys δ)))) (lends-first R (ν ∷ []) l₉ k ys 𝓤 H A W (named 0) (room l₉ nine)) $
+        use1 W (later (some (λ (δ : GName). ‵ (Own l₁₀ nine ν δ) ⊛ ‵ (Kept R (ν ∷ []) l₁₀ k ys δ)))) (lends-first R (ν ∷ []) l₁₀ k ys 𝓤 H A W (named 0) (room l₁₀ nine)) $
         await ! tt $ pick ! (λ δ. split ! $
         move ! (3 ∷ 4 ∷ []) $ join ! $ move ! (3 ∷ 1 ∷ []) $ join ! $
-        use2 W (raw (OverList 𝓤 H A mem run .pre (to l₉ nine ν δ))) (goes l₉ nine ν δ) $
-        -- [what it asks; what is kept; _15; …; and so on, without the array]
-        calls-at ! fm (OverList 𝓤 H A mem run) known (to l₉ nine ν δ)
-        (local ! (slot 12) refl ▸ local ! (slot 3 - 1) refl ▸ local ! (slot 4 - 1) refl ▸ local ! (slot 14) refl ▸ local ! (slot 6 - 1) refl ▸
-        local ! (slot 7 - 1) refl ▸ local ! (slot 8 - 1) refl ▸ no-more !) (λ w.
+        use2 W (raw (OverList 𝓤 H A mem run .pre (to l₁₀ nine ν δ))) (goes l₁₀ nine ν δ) $
+        -- [what it asks; what is kept; _16; …; and so on, without the array]
+        calls-at ! fm (OverList 𝓤 H A mem run) known (to l₁₀ nine ν δ)
+        (local ! (slot 13) refl ▸ local ! (slot 3 - 1) refl ▸ local ! (slot 4 - 1) refl ▸ local ! (slot 15) refl ▸ local ! (slot 6 - 1) refl ▸
+        local ! (slot 7 - 1) refl ▸ local ! (slot 8 - 1) refl ▸ local ! (slot 9 - 1) refl ▸ no-more !) (λ w.
         use1 W (later (some (λ (c : ListCalled). ((‵ (flft (ν ∷ []) fullShare) ⊛ (‵ (flft κ q) ⊛ ‵ ftrue)) ⊛ ‵ (Q.the-row .own c (w ∷ [])))
-        ⊛ raw (ensured 𝓤 H A over-list.ended (over-list.clauses 𝓤 H A mem run) (ν ∷ [], (κ, tt)) (given l₉ nine ν δ) tt c)))) (id⊢ 𝓤 _) $ await ! tt $ pick ! (λ c.
+        ⊛ raw (ensured 𝓤 H A over-list.ended (over-list.clauses 𝓤 H A mem run) (ν ∷ [], (κ, tt)) (given l₁₀ nine ν δ) tt c)))) (id⊢ 𝓤 _) $ await ! tt $ pick ! (λ c.
         split ! $ move ! (1 ∷ []) $
-        use1 W (some (λ (zs : Lasts). ‵ (lasts over-list.ended (ν ∷ [], (κ, tt)) (given l₉ nine ν δ) zs) ⊛ raw (fact 𝓤 (Said c (zs .0) (zs .1 .1 .1 .0))))) (id⊢ 𝓤 _) $
+        use1 W (some (λ (zs : Lasts). ‵ (lasts over-list.ended (ν ∷ [], (κ, tt)) (given l₁₀ nine ν δ) zs) ⊛ raw (fact 𝓤 (Said c (zs .0) (zs .1 .1 .1 .0))))) (id⊢ 𝓤 _) $
         pick ! (λ zs.
         split ! $ move ! (1 ∷ []) $ heard ! (Said c (zs .0) (zs .1 .1 .1 .0)) (λ e. fsplit ! $ fsplit ! $ move ! (1 ∷ []) $ feqL ! (λ l.
         move ! (1 ∷ []) $ fsplit ! $ drop ! $ fsplit ! $ drop ! $ fsplit ! $ move ! (1 ∷ []) $ drop ! $ fsplit ! $ move ! (1 ∷ []) $ feqL ! (λ l′.
         move ! (2 ∷ []) $ split ! $ move ! (1 ∷ []) $ peeks ! Q.the-row (Is Q.the-row) (shows 𝓤 H A Q.the-row) c (w ∷ []) (λ c-is.
-        -- [what it returns; the tokens; buffer's last value; the list's; what is kept; _15; …]
-        lands-in ! (slot 10 + 3) refl (LL.lawful Q.the-type Q′.the-laws 𝓤 H A W .typed c _ c-is .0) $
+        -- [what it returns; the tokens; buffer's last value; the list's; what is kept; _16; …]
+        lands-in ! (slot 11 + 3) refl (LL.lawful Q.the-type Q′.the-laws 𝓤 H A W .typed c _ c-is .0) $
         -- the lifetime is ended, and the records come back
         drop ! $ split ! $ lft-end ! tt $ move ! (0 ∷ 4 ∷ 3 ∷ []) $
-        use3 W (later (‵ (cells (memory R) (zs .0 ++ after k ys) l₉ 0))) (first-back R (ν ∷ []) l₉ k ys 𝓤 H A W (named 0) δ (zs .0) l) $ await ! tt $
+        use3 W (later (‵ (cells (memory R) (zs .0 ++ after k ys) l₁₀ 0))) (first-back R (ν ∷ []) l₁₀ k ys 𝓤 H A W (named 0) δ (zs .0) l) $ await ! tt $
         move ! (1 ∷ []) $ split ! $ move ! (1 ∷ []) $ drop ! $ move ! (1 ∷ 0 ∷ []) $
         let all = zs .0 ++ after k ys in
-        use1 W (‵ (row R fullShare all l₉ 0)) (whole-out 𝓤 H A W R all l₉ 0) $ feqI ! ℕ (length all) 9 (same-len k ys (zs .0) l ∙ nine) $ fjoin ! $
-        use1 W (‵ (partAt Nine fullShare all l₉ 0)) (array-whole 𝓤 H A W R fullShare 9 all l₉ 0) $
+        use1 W (‵ (row R fullShare all l₁₀ 0)) (whole-out 𝓤 H A W R all l₁₀ 0) $ feqI ! ℕ (length all) 9 (same-len k ys (zs .0) l ∙ nine) $ fjoin ! $
+        use1 W (‵ (partAt Nine fullShare all l₁₀ 0)) (array-whole 𝓤 H A W R fullShare 9 all l₁₀ 0) $
         fpick ! (λ vs. fsplit ! $ move ! (1 ∷ []) $ peeks ! Nine (Is Nine) (shows 𝓤 H A Nine) all vs (λ all-was. drop ! $
-        rewrite ! 0 (λ (us : List Val). ‵ (cellAt fullShare (Nine .mir) us l₉ 0)) (array-tells R vals tells 9 all vs all-was) refl $
+        rewrite ! 0 (λ (us : List Val). ‵ (cellAt fullShare (Nine .mir) us l₁₀ 0)) (array-tells R vals tells 9 all vs all-was) refl $
         let all-is : Is Nine all (v all ∷ []) = subst (Is Nine all) (array-tells R vals tells 9 all vs all-was) all-was in
-        use1 W (‵ (fat fullShare (tyArray T′.mir 9) l₉ 0 (v all))) (W .laws .raw-at fullShare (tyArray T′.mir 9) l₉ 0 (v all)) $
-        -- [the array; the token; what buffer ended with; _15; …; and so on, with the array's right to be freed in its place]
-        sets ! (slot 15 + 1) (of-opd ! (local ! 0 refl)) refl (typed-array all all-is) $
+        use1 W (‵ (fat fullShare (tyArray T′.mir 9) l₁₀ 0 (v all))) (W .laws .raw-at fullShare (tyArray T′.mir 9) l₁₀ 0 (v all)) $
+        -- [the array; the token; what buffer ended with; _16; …; and so on, with the array's right to be freed in its place]
+        sets ! (slot 16 + 1) (of-opd ! (local ! 0 refl)) refl (typed-array all all-is) $
         use0 W (raw (Both 𝓤 H A mem run .pre (to-both c w all))) (goes-both c w all c-is all-is) $
-        calls-at ! fm (Both 𝓤 H A mem run) known-both (to-both c w all) (local ! (slot 10 + 2) refl ▸ local ! (slot 15 + 2) refl ▸ no-more !) (λ u.
+        calls-at ! fm (Both 𝓤 H A mem run) known-both (to-both c w all) (local ! (slot 11 + 2) refl ▸ local ! (slot 16 + 2) refl ▸ no-more !) (λ u.
         use1 W (later (some (λ (t : CalledByValue). (‵ ftrue ⊛ ‵ (Y.the-row .own t (u ∷ []))) ⊛ raw (ensured 𝓤 H A both.ended (both.clauses 𝓤 H A mem run) tt (c, (all, tt)) tt t))))
         (id⊢ 𝓤 _) $ await ! tt $ pick ! (λ t.
         split ! $ move ! (1 ∷ []) $ use1 W (raw (fact 𝓤 ((t .result ≡ c) × (t .records ≡ all)))) (both-said c all t) $
@@ -278,10 +287,10 @@ module _ {M : Type 1} (𝓤 : URA M) (H : Heap 𝓤) (A : Atoms 𝓤) (W : Given
         lands-in ! (slot 0) refl (LL.lawful Y.the-type Y′.the-laws 𝓤 H A W .typed t _ t-is .0) $
         returns ! (look ! (slot 0) refl) $
         ends ! (slot 0) refl refl $ ends ! (slot 1) refl refl $ ends ! (slot 2) refl refl $ ends ! (slot 3) refl refl $ ends ! (slot 4) refl refl $
-        ends ! (slot 5) refl refl $ ends ! (slot 6) refl refl $ ends ! (slot 7) refl refl $ ends ! (slot 8) refl refl $
-        forget ! 0 refl $ move ! (0 ∷ (slot 9 + 1) ∷ []) $ free1 ! $ ends ! (slot 10) refl refl $ ends ! (slot 11) refl refl $ ends ! (slot 12) refl refl $
-        ends ! (slot 13) refl refl $ ends ! (slot 14) refl refl $ ends ! (slot 15) refl refl $ free0 ! $
-        keep ! (0 ∷ 1 ∷ []) $ by ! (exits c (zs .0) (zs .1 .1 .1 .0) t u e l′ e′ t-is)))))))))))))))))))))))))))))))))
+        ends ! (slot 5) refl refl $ ends ! (slot 6) refl refl $ ends ! (slot 7) refl refl $ ends ! (slot 8) refl refl $ ends ! (slot 9) refl refl $
+        forget ! 0 refl $ move ! (0 ∷ (slot 10 + 1) ∷ []) $ free1 ! $ ends ! (slot 11) refl refl $ ends ! (slot 12) refl refl $ ends ! (slot 13) refl refl $
+        ends ! (slot 14) refl refl $ ends ! (slot 15) refl refl $ ends ! (slot 16) refl refl $ free0 ! $
+        keep ! (0 ∷ 1 ∷ []) $ by ! (exits c (zs .0) (zs .1 .1 .1 .0) t u e l′ e′ t-is))))))))))))))))))))))))))))))))))
 
 pub ask-first-spec : {M : Type 1} → stated.statement M
 unfolding code.routine tablesOf
@@ -293,13 +302,13 @@ ask-first-spec 𝓤 H 𝓜 𝓖 𝓡 =
     let 𝓣 = tablesOf 𝓤 H 𝓜 (tables 𝓤 H 𝓜 𝓡 code.env) in
     entered 𝓤 H (tripleOf 𝓤 H A ask.signature (ask.spec 𝓤 H A mem run)) (𝓣 .C) (𝓣 .Λ) #ask code.function (code.unfolded 𝓤 H 𝓜 𝓡)
     (walk-meets 𝓤 H A ask.ended stayed W
-    (goes-none 𝓤 H A W 1 (λ _. Nine) yes (λ κs x f. refl), (goes-none 𝓤 H A W 1 (λ _. usize) yes (λ κs x f. refl), (goes-none 𝓤 H A W 1 (λ _. usize) yes (λ κs x f. refl), (goes-none 𝓤 H A W 1 (λ _. usize) yes (λ κs x f. refl), (goes-gave-slice 𝓤 H A W 1 0 tt (plain (λ _. u8)), (goes-none 𝓤 H A W 1 (λ _. u8) yes (λ κs x f. refl), (goes-none 𝓤 H A W 1 (λ _. S.the-row) yes (λ κs x f. refl), (goes-none 𝓤 H A W 1 (λ _. u64) yes (λ κs x f. refl), tt))))))))
+    (goes-none 𝓤 H A W 1 (λ _. Nine) yes (λ κs x f. refl), (goes-none 𝓤 H A W 1 (λ _. usize) yes (λ κs x f. refl), (goes-none 𝓤 H A W 1 (λ _. usize) yes (λ κs x f. refl), (goes-none 𝓤 H A W 1 (λ _. usize) yes (λ κs x f. refl), (goes-gave-slice 𝓤 H A W 1 0 tt (plain (λ _. u8)), (goes-none 𝓤 H A W 1 (λ _. u8) yes (λ κs x f. refl), (goes-none 𝓤 H A W 1 (λ _. S.the-row) yes (λ κs x f. refl), (goes-none 𝓤 H A W 1 (λ _. K.the-row) yes (λ κs x f. refl), (goes-none 𝓤 H A W 1 (λ _. u64) yes (λ κs x f. refl), tt)))))))))
     (ask.clauses 𝓤 H A mem run) (WpFn 𝓤 H (𝓣 .C) (𝓣 .Λ) code.function) (WpFn-mono 𝓤 H (W .laws) 𝓣 code.function)
     (walked 𝓤 H A ask.ended stayed (ask.clauses 𝓤 H A mem run) (WpFn 𝓤 H (𝓣 .C) (𝓣 .Λ) code.function)
-    (λ κs. (array-vals vals, (uint-vals w64, (uint-vals w64, (uint-vals w64, (slice-vals, (uint-vals w8, (LL.vals S.the-type S′.the-laws, (uint-vals w64, tt)))))))))
-    (λ κs. (array-tells R vals tells 9, (uint-tells w64, (uint-tells w64, (uint-tells w64, (mut-slice-tells (named 0) (κs .0) u8, (uint-tells w8, (LL.tells S.the-type S′.the-laws, (uint-tells w64, tt)))))))))
+    (λ κs. (array-vals vals, (uint-vals w64, (uint-vals w64, (uint-vals w64, (slice-vals, (uint-vals w8, (LL.vals S.the-type S′.the-laws, (LL.vals K.the-type K′.the-laws, (uint-vals w64, tt))))))))))
+    (λ κs. (array-tells R vals tells 9, (uint-tells w64, (uint-tells w64, (uint-tells w64, (mut-slice-tells (named 0) (κs .0) u8, (uint-tells w8, (LL.tells S.the-type S′.the-laws, (LL.tells K.the-type K′.the-laws, (uint-tells w64, tt))))))))))
     (λ κs qs bounds a _ are. needs 𝓤 _ _ (λ few.
-    walk 𝓤 H A W mem run (κs .0) (qs .0) (a .0) (a .1 .0) (a .1 .1 .0) (a .1 .1 .1 .0) (a .1 .1 .1 .1 .0) (a .1 .1 .1 .1 .1 .0) (a .1 .1 .1 .1 .1 .1 .0) (a .1 .1 .1 .1 .1 .1 .1 .0)
-    (are .0) (are .1 .0 .1) (are .1 .1 .0 .1) (are .1 .1 .1 .0 .1) (are .1 .1 .1 .1 .0 .0 .1) (are .1 .1 .1 .1 .1 .0 .1) (are .1 .1 .1 .1 .1 .1 .0) (are .1 .1 .1 .1 .1 .1 .1 .0 .1) few (𝓣 .C) (𝓣 .Λ) (fmOf 𝓤 H (W .laws) 𝓣)
+    walk 𝓤 H A W mem run (κs .0) (qs .0) (a .0) (a .1 .0) (a .1 .1 .0) (a .1 .1 .1 .0) (a .1 .1 .1 .1 .0) (a .1 .1 .1 .1 .1 .0) (a .1 .1 .1 .1 .1 .1 .0) (a .1 .1 .1 .1 .1 .1 .1 .0) (a .1 .1 .1 .1 .1 .1 .1 .1 .0)
+    (are .0) (are .1 .0 .1) (are .1 .1 .0 .1) (are .1 .1 .1 .0 .1) (are .1 .1 .1 .1 .0 .0 .1) (are .1 .1 .1 .1 .1 .0 .1) (are .1 .1 .1 .1 .1 .1 .0) (are .1 .1 .1 .1 .1 .1 .1 .0) (are .1 .1 .1 .1 .1 .1 .1 .1 .0 .1) few (𝓣 .C) (𝓣 .Λ) (fmOf 𝓤 H (W .laws) 𝓣)
     (cited 𝓤 H (OverList 𝓤 H A mem run) 𝓜 𝓡 code.env #over-list over-list-def.routine code.calls-associations·ask (over-list-thm.met 𝓤 H 𝓜 𝓖 𝓡))
     (cited 𝓤 H (Both 𝓤 H A mem run) 𝓜 𝓡 code.env #both both-def.routine code.calls-associations-by-value·called-by-value (both-thm.met 𝓤 H 𝓜 𝓖 𝓡))))))

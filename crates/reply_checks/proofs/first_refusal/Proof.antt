@@ -9,7 +9,7 @@ use Rattle.reply_checks.proofs.first_refusal.Statement.{statement}
 use Rattle.reply_checks.proofs.first_refusal.Tie as tie
 
 abbrev table : tie.Start → Tests (Unit {0})
-table s = matchTests (s .args .transmit) (s .args .version) (s .args .f) pass
+table s = matchTests (s .args .token) (s .args .version) (s .args .f) pass
 
 returns : tie.Need-returns
 returns c = returned (starts {t = table (c .before .before .before)}) (ap not (ne-eqb _ _ (c .if1 .taken)))

@@ -9,7 +9,7 @@ use Rattle.client.proofs.Client.first_ask_refusal.Statement.{statement}
 use Rattle.client.proofs.Client.first_ask_refusal.Tie as tie
 
 abbrev table : tie.Start → Tests Called
-table s = askTests (s .args .self) (s .args .room) (s .args .version) (s .args .clock) (s .args .uptime)
+table s = askTests (s .args .self) (s .args .room) (s .args .version) (s .args .clock) (s .args .token) (s .args .uptime)
 
 returns : tie.Need-returns
 unfolding askTests
@@ -48,27 +48,35 @@ at-4 c = goes-on (at-3 (c .before .before)) (rw (c .before .is-zero .ensures) at
 
 returns-5 : tie.Need-returns-5
 unfolding askTests
-returns-5 c = returned (at-4 (c .before .before)) (rw (c .before .is-stopped .ensures) at (c .if5 .taken))
+returns-5 c = returned (at-4 (c .before .before)) (rw (c .before .is-zero2 .ensures) at (c .if5 .taken))
 
 at-5 : (c : tie.Else5) → At 5 (table (start (c .before .before .before .before)))
 unfolding askTests
-at-5 c = goes-on (at-4 (c .before .before)) (rw (c .before .is-stopped .ensures) at (c .if5 .left))
+at-5 c = goes-on (at-4 (c .before .before)) (rw (c .before .is-zero2 .ensures) at (c .if5 .left))
 
 returns-6 : tie.Need-returns-6
 unfolding askTests
-returns-6 c = returned (at-5 (c .before .before)) (rw (c .before .is-waiting .ensures) at (c .if6 .taken))
+returns-6 c = returned (at-5 (c .before .before)) (rw (c .before .is-stopped .ensures) at (c .if6 .taken))
 
 at-6 : (c : tie.Else6) → At 6 (table (start (c .before .before .before .before .before .before)))
 unfolding askTests
-at-6 c = goes-on (at-5 (c .before .before)) (rw (c .before .is-waiting .ensures) at (c .if6 .left))
+at-6 c = goes-on (at-5 (c .before .before)) (rw (c .before .is-stopped .ensures) at (c .if6 .left))
 
 returns-7 : tie.Need-returns-7
 unfolding askTests
-returns-7 c = let soon = c .before .before in returned (at-6 (soon .before)) (rw (soon .within-interval .ensures) at (c .if7 .taken))
+returns-7 c = returned (at-6 (c .before .before)) (rw (c .before .is-waiting .ensures) at (c .if7 .taken))
+
+at-7 : (c : tie.Else7) → At 7 (table (start (c .before .before .before .before .before .before .before .before)))
+unfolding askTests
+at-7 c = goes-on (at-6 (c .before .before)) (rw (c .before .is-waiting .ensures) at (c .if7 .left))
 
 returns-8 : tie.Need-returns-8
 unfolding askTests
-returns-8 c = let soon = c .before .before in returned (goes-on (at-6 (soon .before)) (rw (soon .within-interval .ensures) at (c .if7 .left))) refl
+returns-8 c = let soon = c .before .before in returned (at-7 (soon .before)) (rw (soon .within-interval .ensures) at (c .if8 .taken))
+
+returns-9 : tie.Need-returns-9
+unfolding askTests
+returns-9 c = let soon = c .before .before in returned (goes-on (at-7 (soon .before)) (rw (soon .within-interval .ensures) at (c .if8 .left))) refl
 
 pub first-ask-refusal-spec : {M : Type 1} → statement M
-first-ask-refusal-spec = tie.close (tie.spec _ returns returns-2 _ returns-3 _ returns-4 _ returns-5 _ returns-6 _ returns-7 returns-8)
+first-ask-refusal-spec = tie.close (tie.spec _ returns returns-2 _ returns-3 _ returns-4 _ returns-5 _ returns-6 _ returns-7 _ returns-8 returns-9)
