@@ -110,7 +110,7 @@ module _ (i : ListInput) where
   unfolding askedFor listAfterAsk bufferAfterAsk gaveUpFor listAfterGiveUp arrivedFor listAfterArrival
   by-call (ask x) c true b e f = rw (c, e) refl
   by-call (ask x) c false true e f = rw (c, e, f) refl
-  by-call (ask x) c false false e f = rw (c, e, f) (ap (in-use (calls.asks (at-record i .0) x)) (call-use (afterAsk (at-record i .0) (length (x .buffer)) (x .version) (x .clock) (x .uptime) .answer)))
+  by-call (ask x) c false false e f = rw (c, e, f) (ap (in-use (calls.asks (at-record i .0) x)) (call-use (afterAsk (at-record i .0) (length (x .buffer)) (x .version) (x .clock) (x .token) (x .uptime) .answer)))
   by-call (arrival x) c true b e f = rw (c, e) refl
   by-call (arrival x) c false true e f = rw (c, e, f) refl
   by-call (arrival x) c false false e f =

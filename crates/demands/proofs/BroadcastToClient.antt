@@ -14,6 +14,7 @@ use Rattle.packet.proofs.Packet.{length-octetsOf}
 use Rattle.packet.specs.declared.WriteAnswer.{WriteAnswer}
 use Rattle.server_packet.specs.Packet.{synchronisedFields, unsynchronisedFields, packetFields}
 use Rattle.broadcast.specs.Broadcast.{broadcastMessage}
+use Rattle.token.specs.Token.{token}
 use Rattle.client.specs.declared.Client.{Client}
 use Rattle.demands.specs.Form.{refusal}
 use Rattle.demands.specs.Common.{notAvailable, IsPacket}
@@ -80,7 +81,7 @@ module _ (c : Client) (x : Broadcast) (t4 : Timestamp) (alternate : Bool) (l : L
   refuses = record {
     not-asked = λ idle. does-it (client-meets .answers) (c, theCall c x t4 alternate) (refused not-waiting) (inr (l, inr (is-packet, inl (idle, refl))));
     not-answered = λ waits. does-it (client-meets .answers) (c, theCall c x t4 alternate) (refused originate-mismatch)
-        (inr (l, inr (is-packet, inr (waits, inl ((λ e. l .waiting waits .0 (sym e ∙ originate)), refl)))));
+        (inr (l, inr (is-packet, inr (waits, inl ((λ e. l .waiting waits .1 (ap (λ (t : Timestamp). token (t .0)) (sym e ∙ originate))), refl)))));
   }
 
 pub client-refuses-broadcast : ClientRefusesBroadcast

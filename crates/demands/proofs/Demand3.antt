@@ -30,12 +30,12 @@ module _ (r : Run) (p : Premises ours r) where
   e = r .exchange
 
   abbrev x : calls.Ask
-  x = record { buffer = r .buffer; version = r .version; clock = T1 e; uptime = r .uptime }
+  x = record { buffer = r .buffer; version = r .version; clock = T1 e; token = r .token; uptime = r .uptime }
 
   served : Served (r .client) x (r .settings) (T2 e) (T3 e) (r .replyBuffer)
   served = record {
     asked = asked-is (r .client) x (p .ask-accepted);
-    fits = reading-below (e .client) (e .sent);
+    fits = p .fits;
     room = p .room;
     set = p .set;
     available = λ z. (p .orderly .nonzero .1, p .orderly .nonzero .2);
@@ -44,18 +44,18 @@ module _ (r : Run) (p : Premises ours r) where
 
   -- the record that the ask hands back, and the fields of the reply
   abbrev w : Client
-  w = waitingFor (r .client) (r .version) (T1 e) (r .uptime)
+  w = waitingFor (r .client) (r .version) (T1 e) (r .token) (r .uptime)
 
   abbrev said : Fields
-  said = synchronisedFields (r .settings) (replyMessage (requestFields (r .version) (T1 e)) (T2 e) (T3 e))
+  said = synchronisedFields (r .settings) (replyMessage (requestFields (r .version) (r .token)) (T2 e) (T3 e))
 
-  octets-are : octetsOf (replyFields (r .settings) (requestFields (r .version) (T1 e)) (T2 e) (T3 e)) ≡ octetsOf said
+  octets-are : octetsOf (replyFields (r .settings) (requestFields (r .version) (r .token)) (T2 e) (T3 e)) ≡ octetsOf said
   unfolding packetFields
   octets-are = rw (p .synchronised)
 
   of-reply : fieldsOf (octetsOf said) ≡ typed said
   of-reply =
-      reply-fields (r .version) (T1 e) (served .asked .version .1) (served .fits) (r .settings) (p .set) (r .settings .leap) 1 (r .settings .identifier) (r .settings .reference)
+      reply-fields (r .version) (r .token) (served .asked .version .1) (served .fits) (r .settings) (p .set) (r .settings .leap) 1 (r .settings .identifier) (r .settings .reference)
       (T2 e) (T3 e) (let l = p .set .leap in omega arith) (omega arith) (reading-below (e .server) (e .received)) (reading-below (e .server) (e .answered))
 
   -- the client accepts it

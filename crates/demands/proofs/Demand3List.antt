@@ -84,7 +84,7 @@ module _ (at : ℕ) (w : Client) (waits : w .phase ≡ Waiting) where
         same = getD-set-other (s .list) (x .at) at (o .next) fresh (λ e. other (sym e)) ∙ sound .same;
       })
 
-  module _ (s : Associations) (x : Numbered) (here : x .at ≡ at) (permitted : (told : Bool) → one-record.Permitted (w .transmit) (w .uptime) (clientCall told (x .call))) (sound : Sound s) where
+  module _ (s : Associations) (x : Numbered) (here : x .at ≡ at) (permitted : (told : Bool) → one-record.Permitted (w .token) (w .uptime) (clientCall told (x .call))) (sound : Sound s) where
     -- a permitted call for it is refused
     refused-here : IsRefused ours s x
     refused-here =
@@ -100,7 +100,7 @@ module _ (at : ℕ) (w : Client) (waits : w .phase ≡ Waiting) where
     here-kept : Sound (left ours (does ours s x))
     here-kept = subst (λ o. Sound (left ours o)) (sym (refused-here .is)) sound
 
-  all-kept : (xs : List Numbered) (s : Associations) → AllPermitted at (w .transmit) (w .uptime) xs → Sound s → AllRefused ours at s xs × Sound (after ours s xs)
+  all-kept : (xs : List Numbered) (s : Associations) → AllPermitted at (w .token) (w .uptime) xs → Sound s → AllRefused ours at s xs × Sound (after ours s xs)
   all-kept [] s permitted sound = (tt, sound)
   all-kept (x ∷ xs) s (first, others) sound =
       let (refused, kept) = all-kept xs (left ours (does ours s x)) others (next (eqb (x .at) at) refl) in
@@ -117,13 +117,13 @@ module _ (r : Run) (p : Premises ours r) where
   c = association (r .before .list) (r .at)
 
   abbrev x : calls.Ask
-  x = record { buffer = r .buffer; version = r .version; clock = T1 (r .exchange); uptime = r .uptime }
+  x = record { buffer = r .buffer; version = r .version; clock = T1 (r .exchange); token = r .token; uptime = r .uptime }
 
   abbrev asking : Numbered
   asking = record { at = r .at; call = ask x }
 
   abbrev w : Client
-  w = waitingFor c (r .version) (T1 (r .exchange)) (r .uptime)
+  w = waitingFor c (r .version) (T1 (r .exchange)) (r .token) (r .uptime)
 
   abbrev input : associations.ListInput
   input = given ours (r .before) asking
@@ -150,7 +150,7 @@ module _ (r : Run) (p : Premises ours r) where
       let n = length-set (r .before .list) (r .at) w in
       subst (Sound (r .at) w refl) (sym left-is) (record {
         inside = (omega (arith, n, inside .0), omega (arith, n, inside .1), omega (arith, n, inside .2), omega (arith, n, inside .3));
-        legal = set-legal (r .before .list) (r .at) w legal (waiting-legal c (r .version) (T1 (r .exchange)) (r .uptime) (own .legal) (own .version) (own .clock));
+        legal = set-legal (r .before .list) (r .at) w legal (waiting-legal c (r .version) (T1 (r .exchange)) (r .token) (r .uptime) (own .legal) (own .version) (own .clock) (own .token));
         same = getD-set-same (r .before .list) (r .at) w fresh (inside .2);
       })
 
@@ -164,6 +164,7 @@ module _ (r : Run) (p : Premises ours r) where
     client = c;
     buffer = r .buffer;
     version = r .version;
+    token = r .token;
     uptime = r .uptime;
     settings = r .settings;
     replyBuffer = r .replyBuffer;
@@ -175,6 +176,7 @@ module _ (r : Run) (p : Premises ours r) where
   by-itself = demand3 run (record {
     orderly = p .orderly;
     ask-accepted = not-refused;
+    fits = p .fits;
     synchronised = p .synchronised;
     set = p .set;
     room = p .room;

@@ -1,4 +1,4 @@
--- The facts of timestamps, packets, phases and uptimes that rules name, each with the test of the tables that decides it.
+-- The facts of timestamps, tokens, packets, phases and uptimes that rules name, each with the test of the tables that decides it.
 use mathlib.Core.Path.{_≡_, refl, sym, ap, subst}
 use mathlib.Core.Logic.{_≢_, _⊎_, inl, inr}
 use mathlib.Core.Bool.{Bool, _||_}
@@ -10,20 +10,28 @@ use mir.Facts.{or-yes, eqb-yes, yes-eqb}
 use Rattle.ordered_tests.proofs.Reflection.{WhereTrue, WhereFalse, negated, refuted, at-least}
 use Rattle.timestamp.specs.declared.Timestamp.{Timestamp}
 use Rattle.timestamp.specs.Timestamp.{timestamp, isZero}
+use Rattle.token.specs.declared.Token.{Token}
+use Rattle.token.specs.Token.{token, isZeroToken}
 use Rattle.packet.specs.Packet.{wrongLength}
 use Rattle.poll.specs.Poll.{tooSoon}
 use Rattle.client.specs.declared.Phase.{Phase}
 use Rattle.client.specs.declared.Phase.the-variants.{Idle, Waiting, Stopped}
 use Rattle.client.specs.Record.{isIdle, isWaiting, isStopped}
-use Rattle.demands.specs.Common.{notAvailable, IsPacket}
+use Rattle.demands.specs.Common.{notAvailable, noToken, IsPacket}
 
--- ---- timestamps and packets
+-- ---- timestamps, tokens and packets
 
 pub same-timestamp : (t u : Timestamp) → WhereTrue (t ≡ u) (eqb (t .0) (u .0))
 same-timestamp t u = record { to = λ e. yes-eqb (ap (λ (x : Timestamp). x .0) e); from = λ h. ap timestamp (eqb-yes h) }
 
 pub available : (t : Timestamp) → WhereFalse (t ≢ notAvailable) (isZero t)
 available t = refuted (same-timestamp t notAvailable)
+
+pub same-token : (t u : Token) → WhereTrue (t ≡ u) (eqb (t .0) (u .0))
+same-token t u = record { to = λ e. yes-eqb (ap (λ (x : Token). x .0) e); from = λ h. ap token (eqb-yes h) }
+
+pub some-token : (t : Token) → WhereFalse (t ≢ noToken) (isZeroToken t)
+some-token t = refuted (same-token t noToken)
 
 pub packet : (p : List ℕ) → WhereFalse (IsPacket p) (wrongLength p)
 packet p = negated lengths

@@ -14,6 +14,8 @@ use lib.Signed.{_≤ℤ_}
 use Rattle.arithmetic.proofs.Integers.{integers, neg}
 use Rattle.arithmetic.proofs.Octets.{octets-mod}
 use Rattle.timestamp.specs.declared.Timestamp.{Timestamp}
+use Rattle.token.specs.declared.Token.{Token}
+use Rattle.token.specs.Token.{carried}
 use Rattle.timestamp.specs.Timestamp.{timestamp, _since_}
 use Rattle.packet.specs.declared.Fields.{Fields}
 use Rattle.packet.specs.Packet.{fieldsOf, octetsOf}
@@ -32,7 +34,7 @@ use Rattle.server.specs.Server.{replyMessage, replyFields}
 use Rattle.client.specs.Calls as calls
 use Rattle.client.specs.Calls.{ask, Outcome}
 use Rattle.demands.specs.Form.{refusal, Rules}
-use Rattle.demands.specs.Common.{notAvailable, IsPacket, Written}
+use Rattle.demands.specs.Common.{notAvailable, noToken, IsPacket, Written}
 use Rattle.demands.specs.Legal.{Legal}
 use Rattle.demands.specs.Ask.{requestSent}
 use Rattle.demands.specs.Arrival.{matchRules}
@@ -49,16 +51,18 @@ pub record Asked (c : Client) (x : calls.Ask) : Type 0 where
   pub legal : Legal c
   pub version : (1 ≤ x .version) × (x .version ≤ 4)
   pub clock : x .clock ≢ notAvailable
+  pub token : x .token ≢ noToken
   pub is : ours .does client (c, ask x) ≡ requestSent c x
 
 pub asked-is : (c : Client) (x : calls.Ask) → form client .shown (ours .does client (c, ask x)) .kind ≢ refusal → Asked c x
 asked-is c x accepted =
-    let (o, (legal, (room, (version, (clock, (running, (free, (late, e)))))))) = facts client-meets (c, ask x) accepted in
+    let (o, (legal, (room, (version, (clock, (token, (running, (free, (late, e))))))))) = facts client-meets (c, ask x) accepted in
     record {
       legal = legal;
       version = version;
       clock = clock;
-      is = done-so client-meets (c, ask x) (requestSent c x) (legal, (room, (version, (clock, (running, (free, (late, refl)))))));
+      token = token;
+      is = done-so client-meets (c, ask x) (requestSent c x) (legal, (room, (version, (clock, (token, (running, (free, (late, refl))))))));
     }
 
 -- ---- the 48 octets of fields
@@ -134,11 +138,11 @@ packet-fields s set m leap stratum identifier reference receive transmit version
 
 -- ---- the request's fields
 
-request-packet : (version : ℕ) (clock : Timestamp) → IsPacket (request version clock)
-request-packet version clock = inl (ap length (sym (request-octets version clock)) ∙ length-octetsOf (requestFields version clock))
+request-packet : (version : ℕ) (token : Token) → IsPacket (request version token)
+request-packet version token = inl (ap length (sym (request-octets version token)) ∙ length-octetsOf (requestFields version token))
 
-module _ (version : ℕ) (clock : Timestamp) (small : version ≤ 4) (fits : clock .0 < 2 ^ 64) where
-  request-legal : round-trips.Legal (requestFields version clock)
+module _ (version : ℕ) (token : Token) (small : version ≤ 4) (fits : token .0 < 2 ^ 64) where
+  request-legal : round-trips.Legal (requestFields version token)
   request-legal = record {
     small = rw (le-ltb 7 version (omega arith));
     stratum = omega arith;
@@ -153,21 +157,21 @@ module _ (version : ℕ) (clock : Timestamp) (small : version ≤ 4) (fits : clo
     transmit = fits;
   }
 
-  request-fields : fieldsOf (request version clock) ≡ requestFields version clock
-  request-fields = ap fieldsOf (sym (request-octets version clock)) ∙ fieldsOf-octetsOf (requestFields version clock) request-legal
+  request-fields : fieldsOf (request version token) ≡ requestFields version token
+  request-fields = ap fieldsOf (sym (request-octets version token)) ∙ fieldsOf-octetsOf (requestFields version token) request-legal
 
   -- a reply to it is read back as its fields
   pub reply-fields : (s : Settings) → LegallySet s → (leap stratum identifier : ℕ) (reference receive transmit : Timestamp)
       → leap ≤ 3 → stratum < 2 ^ 8 → receive .0 < 2 ^ 64 → transmit .0 < 2 ^ 64
-      → let f = packetWith s (replyMessage (requestFields version clock) receive transmit) leap stratum identifier reference receive transmit in fieldsOf (octetsOf f) ≡ typed f
+      → let f = packetWith s (replyMessage (requestFields version token) receive transmit) leap stratum identifier reference receive transmit in fieldsOf (octetsOf f) ≡ typed f
   reply-fields s set leap stratum identifier reference receive transmit =
-      packet-fields s set (replyMessage (requestFields version clock) receive transmit) leap stratum identifier reference receive transmit (omega arith) (omega arith) (omega arith) fits
+      packet-fields s set (replyMessage (requestFields version token) receive transmit) leap stratum identifier reference receive transmit (omega arith) (omega arith) (omega arith) fits
 
 -- ---- the server's reply to an ask that is not refused
 
 pub record Served (c : Client) (x : calls.Ask) (s : Settings) (t2 t3 : Timestamp) (buffer : List ℕ) : Type 0 where
   pub asked : Asked c x
-  pub fits : x .clock .0 < 2 ^ 64
+  pub fits : x .token .0 < 2 ^ 64
   pub room : 48 ≤ length buffer
   pub set : LegallySet s
   pub available : s .synchronised ≡ true → (t2 ≢ notAvailable) × (t3 ≢ notAvailable)
@@ -178,7 +182,7 @@ module _ {c : Client} {x : calls.Ask} {s : Settings} {t2 t3 : Timestamp} {buffer
   to request = record { settings = s; request = request; t2 = t2; t3 = t3; buffer = buffer }
 
   abbrev asking : List ℕ
-  asking = request (x .version) (x .clock)
+  asking = request (x .version) (x .token)
 
   abbrev pub theReply : Written ReplyAnswer
   theReply = ours .does reply (to (take 48 (ours .does client (c, ask x) .octets)))
@@ -186,10 +190,10 @@ module _ {c : Client} {x : calls.Ask} {s : Settings} {t2 t3 : Timestamp} {buffer
   sent : take 48 (ours .does client (c, ask x) .octets) ≡ asking
   sent =
       ap (λ o. take 48 (o .octets)) (r .asked .is)
-      ∙ subst (λ q. take 48 (q ++ drop 48 (x .buffer)) ≡ q) (request-octets (x .version) (x .clock)) (front (requestFields (x .version) (x .clock)) (drop 48 (x .buffer)))
+      ∙ subst (λ q. take 48 (q ++ drop 48 (x .buffer)) ≡ q) (request-octets (x .version) (x .token)) (front (requestFields (x .version) (x .token)) (drop 48 (x .buffer)))
 
-  of-request : fieldsOf asking ≡ requestFields (x .version) (x .clock)
-  of-request = request-fields (x .version) (x .clock) (r .asked .version .1) (r .fits)
+  of-request : fieldsOf asking ≡ requestFields (x .version) (x .token)
+  of-request = request-fields (x .version) (x .token) (r .asked .version .1) (r .fits)
 
   reply-is : theReply ≡ written (to asking)
   reply-is =
@@ -197,7 +201,7 @@ module _ {c : Client} {x : calls.Ask} {s : Settings} {t2 t3 : Timestamp} {buffer
       ∙ done-so reply-meets (to asking) (written (to asking)) (
         r .room,
         (
-          request-packet (x .version) (x .clock),
+          request-packet (x .version) (x .token),
           (
             ap (λ f. f .mode) of-request,
             (
@@ -218,17 +222,17 @@ module _ {c : Client} {x : calls.Ask} {s : Settings} {t2 t3 : Timestamp} {buffer
   pub reply-written : theReply .answer ≡ ReplyAnswer.Written
   reply-written = ap (λ w. w .answer) reply-is
 
-  pub reply-octets : take 48 (theReply .octets) ≡ octetsOf (replyFields s (requestFields (x .version) (x .clock)) t2 t3)
+  pub reply-octets : take 48 (theReply .octets) ≡ octetsOf (replyFields s (requestFields (x .version) (x .token)) t2 t3)
   reply-octets =
       ap (λ w. take 48 (w .octets)) reply-is
       ∙ front (replyFields s (fieldsOf asking) t2 t3) (drop 48 buffer)
       ∙ ap (λ f. octetsOf (replyFields s f t2 t3)) of-request
 
   -- it answers the request of the record that waits for it: the rules up to a kiss
-  pub matched : (said : Fields) (t4 : Timestamp) (alternate : Bool) (rest : Rules Outcome) (o : Outcome) → fieldsOf (octetsOf said) ≡ typed said → said .originate ≡ x .clock → said .mode ≡ 4 → said .version ≡ x .version
-      → Passes rest o → Passes (matchRules (waitingFor c (x .version) (x .clock) (x .uptime)) (record { packet = octetsOf said; t4 = t4; alternate = alternate }) rest) o
+  pub matched : (said : Fields) (t4 : Timestamp) (alternate : Bool) (rest : Rules Outcome) (o : Outcome) → fieldsOf (octetsOf said) ≡ typed said → said .originate ≡ carried (x .token) → said .mode ≡ 4 → said .version ≡ x .version
+      → Passes rest o → Passes (matchRules (waitingFor c (x .version) (x .clock) (x .token) (x .uptime)) (record { packet = octetsOf said; t4 = t4; alternate = alternate }) rest) o
   matched said t4 alternate rest o e originate mode version p = (
-    waiting-legal c (x .version) (x .clock) (x .uptime) (r .asked .legal) (r .asked .version) (r .asked .clock),
+    waiting-legal c (x .version) (x .clock) (x .token) (x .uptime) (r .asked .legal) (r .asked .version) (r .asked .clock) (r .asked .token),
     (
       inl (length-octetsOf said),
       (

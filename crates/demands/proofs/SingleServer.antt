@@ -25,7 +25,7 @@ pub waiting-runs : Waiting ≢ Stopped
 waiting-runs e = subst (λ p. T (not (isStopped p))) e tt
 
 pub passing-runs : (c : Client) (x : Call) (o : Outcome) → NoAlternate x → Passes (callRules c x) o → Runs o
-passing-runs c (ask x) o alone (_, (_, (_, (_, (_, (_, (_, e))))))) = subst Runs e waiting-runs
+passing-runs c (ask x) o alone (_, (_, (_, (_, (_, (_, (_, (_, e)))))))) = subst Runs e waiting-runs
 passing-runs c (arrival x) o alone (_, (_, (_, (_, (_, (_, inl (_, e))))))) =
     subst Runs e (subst (λ alternate. cond alternate (withoutRequest c Stopped (c .exponent)) (withoutRequest c Idle (min (suc (c .exponent)) 14)) .phase ≢ Stopped) (sym alone) idle-runs)
 passing-runs c (arrival x) o alone (_, (_, (_, (_, (_, (_, inr (_, (_, (_, (_, (_, (_, (_, (_, (_, (_, (_, (_, e)))))))))))))))))) = subst Runs e idle-runs

@@ -1,5 +1,5 @@
 -- The premises of demand 3 are met.
-use mathlib.Core.Path.{refl, sym}
+use mathlib.Core.Path.{refl, subst}
 use mathlib.Core.Logic.{_≢_}
 use mathlib.Core.Bool.{Bool, true, not, _&&_}
 use mathlib.Core.List.{List, [], _∷_}
@@ -26,10 +26,11 @@ unfolding fieldsOf
 premises b e o asked = record {
   orderly = o;
   ask-accepted = asked;
+  fits = lit< tt;
   synchronised = refl;
   set = record { leap = lit≤ tt; precision = (leZ-yes tt, leZ-yes tt) };
   room = lit≤ tt;
-  permitted = (tt, ((λ packet same. o .nonzero .0 (sym same)), ((λ packet same. o .nonzero .0 (sym same)), (lit< tt, tt))));
+  permitted = (tt, ((λ packet same. subst (λ t. T (isZero t)) same tt), ((λ packet same. subst (λ t. T (isZero t)) same tt), (lit< tt, tt))));
 }
 
 -- tests, together and one by one

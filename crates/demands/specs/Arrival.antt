@@ -8,6 +8,7 @@ use lib.Signed.{_≤ℤ_, _<ℤ_}
 use Rattle.refusals.specs.Numbers.{record-not-legal, packet-length-wrong, not-waiting, originate-mismatch, reply-mode-wrong, version-mismatch, own-clock-zero, server-unsynchronised, stratum-too-high, server-timestamp-zero, root-delay-out-of-range, root-dispersion-too-large}
 use Rattle.packet.specs.declared.Fields.{Fields}
 use Rattle.packet.specs.Packet.{fieldsOf}
+use Rattle.token.specs.Token.{carried}
 use Rattle.kiss.specs.Kiss.{rowOf}
 use Rattle.client.specs.declared.Client.{Client}
 use Rattle.client.specs.declared.Phase.the-variants.{Idle, Waiting, Stopped}
@@ -22,9 +23,9 @@ module _ (c : Client) (x : calls.Arrival) where
   abbrev f : Fields
   f = fieldsOf (x .packet)
 
-  -- T1 is what the client keeps of its request, T2 and T3 are the packet's receive and transmit timestamp
+  -- T1 is the clock reading that the client keeps of its ask, T2 and T3 are the packet's receive and transmit timestamp
   abbrev pub four : Four
-  four = record { t1 = c .transmit; t2 = f .receive; t3 = f .transmit; t4 = x .t4 }
+  four = record { t1 = c .t1; t2 = f .receive; t3 = f .transmit; t4 = x .t4 }
 
   -- a kiss stops the client for good where an alternate exists, and otherwise leaves it idle with the exponent one more, at most 14
   abbrev pub afterKiss : Client
@@ -42,7 +43,7 @@ module _ (c : Client) (x : calls.Arrival) where
       record-not-legal unless Legal c then
       packet-length-wrong unless IsPacket (x .packet) then
       not-waiting unless c .phase ≡ Waiting then
-      originate-mismatch unless f .originate ≡ c .transmit then
+      originate-mismatch unless f .originate ≡ carried (c .token) then
       reply-mode-wrong unless f .mode ≡ 4 then
       version-mismatch unless f .version ≡ c .version then
       rest

@@ -96,10 +96,10 @@ associations = record {
 
 abbrev does : List Client → (at inUse : ℕ) → ListCall → ListOutcome
 does list at inUse (ask x) = record {
-  result = calls.saidCall (askedFor list at inUse (length (x .buffer)) (x .version) (x .clock) (x .uptime) .answer);
-  list = listAfterAsk list at inUse (length (x .buffer)) (x .version) (x .clock) (x .uptime);
-  inUse = askedFor list at inUse (length (x .buffer)) (x .version) (x .clock) (x .uptime) .«in_use»;
-  octets = bufferAfterAsk list at inUse (x .buffer) (x .version) (x .clock) (x .uptime);
+  result = calls.saidCall (askedFor list at inUse (length (x .buffer)) (x .version) (x .clock) (x .token) (x .uptime) .answer);
+  list = listAfterAsk list at inUse (length (x .buffer)) (x .version) (x .clock) (x .token) (x .uptime);
+  inUse = askedFor list at inUse (length (x .buffer)) (x .version) (x .clock) (x .token) (x .uptime) .«in_use»;
+  octets = bufferAfterAsk list at inUse (x .buffer) (x .version) (x .clock) (x .token) (x .uptime);
 }
 does list at inUse (arrival x) = record {
   result = calls.saidArrival (arrivedFor list at inUse (x .packet) (x .t4) .answer);

@@ -6,10 +6,16 @@ use mathlib.Core.List.{List}
 use lib.ListN.{length}
 use Rattle.timestamp.specs.declared.Timestamp.{Timestamp}
 use Rattle.timestamp.specs.Timestamp.{constants}
+use Rattle.token.specs.declared.Token.{Token}
+use Rattle.token.specs.Token.{token}
 
 -- the all-zero timestamp: "not available"
 abbrev pub notAvailable : Timestamp
 notAvailable = constants .zero
+
+-- no token
+abbrev pub noToken : Token
+noToken = token 0
 
 -- 48 octets, or 68 with an authenticator
 abbrev pub IsPacket : List ℕ → Type 0

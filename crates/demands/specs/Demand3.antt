@@ -14,6 +14,8 @@ use Rattle.refusals.specs.Numbers as numbers
 use Rattle.timestamp.specs.declared.Timestamp.{Timestamp}
 use Rattle.timestamp.specs.Timestamp.{timestamp}
 use Rattle.offset.specs.Halving.{twice}
+use Rattle.token.specs.declared.Token.{Token}
+use Rattle.token.specs.Token.{carried}
 use Rattle.packet.specs.Packet.{fieldsOf}
 use Rattle.client.specs.declared.Client.{Client}
 use Rattle.client.specs.Calls.{Call, ask, arrival, giveUp, accepted, Outcome}
@@ -78,16 +80,16 @@ module _ (e : Exchange) where
 
 -- ---- the calls in between
 
--- A call between the ask, at T1 and this uptime, and the arrival of its reply: anything but an arrival whose originate timestamp is T1, and a give-up
--- 16 seconds or more past the ask. A packet that 7 refuses has no originate timestamp.
-abbrev pub Permitted : Timestamp → ℕ → Call → Type 0
-Permitted t1 uptime (ask x) = Unit {0}
-Permitted t1 uptime (arrival x) = IsPacket (x .packet) → fieldsOf (x .packet) .originate ≢ t1
-Permitted t1 uptime (giveUp x) = x .uptime < uptime + 16
+-- A call between the ask, with this token and uptime, and the arrival of its reply: anything but an arrival whose originate field has the token, and a give-up
+-- 16 seconds or more past the ask. A packet that 7 refuses has no originate field.
+abbrev pub Permitted : Token → ℕ → Call → Type 0
+Permitted token uptime (ask x) = Unit {0}
+Permitted token uptime (arrival x) = IsPacket (x .packet) → fieldsOf (x .packet) .originate ≢ carried token
+Permitted token uptime (giveUp x) = x .uptime < uptime + 16
 
-abbrev pub AllPermitted : Timestamp → ℕ → List Call → Type 0
-AllPermitted t1 uptime [] = Unit {0}
-AllPermitted t1 uptime (x ∷ xs) = Permitted t1 uptime x × AllPermitted t1 uptime xs
+abbrev pub AllPermitted : Token → ℕ → List Call → Type 0
+AllPermitted token uptime [] = Unit {0}
+AllPermitted token uptime (x ∷ xs) = Permitted token uptime x × AllPermitted token uptime xs
 
 -- ---- the whole run: the ask with what it is given, the server's settings and buffer, and the calls between the ask and the arrival of the reply
 
@@ -96,6 +98,7 @@ pub record Run : Type 0 where
   pub client : Client
   pub buffer : List ℕ
   pub version : ℕ
+  pub token : Token
   pub uptime : ℕ
   pub settings : Settings
   pub replyBuffer : List ℕ
@@ -124,7 +127,7 @@ module _ (b : Behaviour) where
 
     -- the ask at T1, the server's answer to the 48 octets that it wrote, and the arrival of the 48 octets of that answer after the calls in between
     abbrev pub theAsk : Outcome
-    theAsk = b .does client (r .client, ask (record { buffer = r .buffer; version = r .version; clock = T1 e; uptime = r .uptime }))
+    theAsk = b .does client (r .client, ask (record { buffer = r .buffer; version = r .version; clock = T1 e; token = r .token; uptime = r .uptime }))
 
     abbrev pub theReply : Written ReplyAnswer
     theReply = b .does reply (record { settings = r .settings; request = take 48 (theAsk .octets); t2 = T2 e; t3 = T3 e; buffer = r .replyBuffer })
@@ -134,11 +137,12 @@ module _ (b : Behaviour) where
 
     pub record Premises : Type 0 where
       pub orderly : Orderly e
-      pub ask-accepted : form client .shown theAsk .kind ≢ refusal  -- the ask is given any record, buffer, version and uptime, so long as it isn't refused
+      pub ask-accepted : form client .shown theAsk .kind ≢ refusal  -- the ask is given any record, buffer, version, token and uptime, so long as it isn't refused
+      pub fits : r .token .0 < 2 ^ 64  -- the token is a value of its type
       pub synchronised : r .settings .synchronised ≡ true
       pub set : LegallySet (r .settings)
       pub room : 48 ≤ length (r .replyBuffer)
-      pub permitted : AllPermitted (T1 e) (r .uptime) (r .calls)
+      pub permitted : AllPermitted (r .token) (r .uptime) (r .calls)
 
     pub record Conclusions : Type 0 where
       pub refusals : AllRefused (theAsk .next) (r .calls)
@@ -150,6 +154,6 @@ module _ (b : Behaviour) where
       pub reply : theArrival .result ≡ accepted offset half (d (readings e))
       pub bound : pos (natAbs (twice offset +ℤ pos half -ℤ twice (trueDifference e))) ≤ℤ d (readings e)
 
-  -- One statement over every exchange, record, buffer, version, uptime, setting and list of calls, with or without an alternate.
+  -- One statement over every exchange, record, buffer, version, token, uptime, setting and list of calls, with or without an alternate.
   abbrev pub Demand3 : Type 0
   Demand3 = (r : Run) → Premises r → Conclusions r

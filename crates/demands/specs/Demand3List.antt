@@ -1,5 +1,5 @@
 -- Demand 3 for one record of a list, whatever calls are made for the other records in between.
-use Prim.Native.Nat.{ℕ, _≤_}
+use Prim.Native.Nat.{ℕ, _^_, _≤_, _<_}
 use mathlib.Core.Path.{_≡_}
 use mathlib.Core.Logic.{_≢_}
 use mathlib.Core.Bool.{Bool, true}
@@ -9,7 +9,7 @@ use lib.IntN.{ℤ, pos, natAbs, _+ℤ_, _-ℤ_}
 use lib.ListN.{length, take}
 use lib.Signed.{_≤ℤ_}
 use Rattle.refusals.specs.Numbers as numbers
-use Rattle.timestamp.specs.declared.Timestamp.{Timestamp}
+use Rattle.token.specs.declared.Token.{Token}
 use Rattle.offset.specs.Halving.{twice}
 use Rattle.client.specs.declared.Client.{Client}
 use Rattle.client.specs.Calls.{accepted}
@@ -38,10 +38,10 @@ pub record Numbered : Type 0 where
   pub call : ListCall
 
 -- calls for this record are those that demand 3 permits, and calls for any other carry anything
-abbrev pub AllPermitted : ℕ → Timestamp → ℕ → List Numbered → Type 0
-AllPermitted at t1 uptime [] = Unit {0}
-AllPermitted at t1 uptime (x ∷ xs) =
-    (x .at ≡ at → (told : Bool) → one-record.Permitted t1 uptime (clientCall told (x .call))) × AllPermitted at t1 uptime xs
+abbrev pub AllPermitted : ℕ → Token → ℕ → List Numbered → Type 0
+AllPermitted at token uptime [] = Unit {0}
+AllPermitted at token uptime (x ∷ xs) =
+    (x .at ≡ at → (told : Bool) → one-record.Permitted token uptime (clientCall told (x .call))) × AllPermitted at token uptime xs
 
 -- ---- the whole run: as that of demand 3, at the record `at` of a list
 
@@ -51,6 +51,7 @@ pub record Run : Type 0 where
   pub at : ℕ
   pub buffer : List ℕ
   pub version : ℕ
+  pub token : Token
   pub uptime : ℕ
   pub settings : Settings
   pub replyBuffer : List ℕ
@@ -87,7 +88,7 @@ module _ (b : Behaviour) where
     e = r .exchange
 
     abbrev pub theAsk : ListOutcome
-    theAsk = does (r .before) (record { at = r .at; call = ask (record { buffer = r .buffer; version = r .version; clock = T1 e; uptime = r .uptime }) })
+    theAsk = does (r .before) (record { at = r .at; call = ask (record { buffer = r .buffer; version = r .version; clock = T1 e; token = r .token; uptime = r .uptime }) })
 
     abbrev pub theReply : Written ReplyAnswer
     theReply = b .does reply (record { settings = r .settings; request = take 48 (theAsk .octets); t2 = T2 e; t3 = T3 e; buffer = r .replyBuffer })
@@ -101,10 +102,11 @@ module _ (b : Behaviour) where
     pub record Premises : Type 0 where
       pub orderly : Orderly e
       pub ask-accepted : form behaviour.association .shown theAsk .kind ≢ refusal
+      pub fits : r .token .0 < 2 ^ 64
       pub synchronised : r .settings .synchronised ≡ true
       pub set : LegallySet (r .settings)
       pub room : 48 ≤ length (r .replyBuffer)
-      pub permitted : AllPermitted (r .at) (T1 e) (r .uptime) (r .calls)
+      pub permitted : AllPermitted (r .at) (r .token) (r .uptime) (r .calls)
 
     pub record Conclusions : Type 0 where
       pub refusals : AllRefused (r .at) (left theAsk) (r .calls)
@@ -116,6 +118,6 @@ module _ (b : Behaviour) where
       pub reply : theArrival .result ≡ accepted offset half (d (readings e))
       pub bound : pos (natAbs (twice offset +ℤ pos half -ℤ twice (trueDifference e))) ≤ℤ d (readings e)
 
-  -- One statement over every exchange, list, number, buffer, version, uptime, setting and list of calls.
+  -- One statement over every exchange, list, number, buffer, version, token, uptime, setting and list of calls.
   abbrev pub Demand3List : Type 0
   Demand3List = (r : Run) → Premises r → Conclusions r

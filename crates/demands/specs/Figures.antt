@@ -6,6 +6,7 @@ use mathlib.Core.List.{List, [], _∷_, _++_}
 use lib.IntN.{ℤ, pos, negℤ}
 use lib.ListN.{length, replicate, take}
 use Rattle.timestamp.specs.Timestamp.{timestamp}
+use Rattle.token.specs.Token.{token}
 use Rattle.offset.specs.declared.OffsetAnswer.{OffsetAnswer}
 use Rattle.offset.specs.Offset.{measured}
 use Rattle.calendar.specs.declared.Date.{Date}
@@ -25,7 +26,7 @@ pub data Figure : Type 0 where
   givesHalf : (t1 t2 t3 t4 : ℕ) → (offset : ℤ) (half : ℕ) → Figure  -- and where the rules name no delay
   givesOffset : (t1 t2 t3 t4 : ℕ) → (offset : ℤ) → Figure  -- nor a half
   refusedBy : (t1 t2 t3 t4 number : ℕ) → Figure
-  afterAsk : (clock : ℕ) (packet : List ℕ) (t4 : ℕ) → Result → Figure  -- an arrival after a fresh client's ask in version 4
+  afterAsk : (clock : ℕ) (packet : List ℕ) (t4 : ℕ) → Result → Figure  -- an arrival after a fresh client's ask in version 4, whose token is the clock reading
   secondsAre : (seconds : ℕ) → Date → Figure  -- a timestamp with these seconds and no fraction
   ticksGive : (tick : ℕ) (precision : ℤ) (other : ℕ) (other-precision : ℤ) → Figure  -- two ticks in one row
 
@@ -42,7 +43,7 @@ Right (givesHalf t1 t2 t3 t4 offset half) = Begins (shown (measuredAt t1 t2 t3 t
 Right (givesOffset t1 t2 t3 t4 offset) = Begins (shown (measuredAt t1 t2 t3 t4)) (offset ∷ [])
 Right (refusedBy t1 t2 t3 t4 number) = measuredAt t1 t2 t3 t4 ≡ OffsetAnswer.Refused number
 Right (afterAsk clock packet t4 result) =
-    step (step fresh (ask (record { buffer = replicate 48 0; version = 4; clock = timestamp clock; uptime = 0 })) .next) (arrival (record { packet = packet; t4 = timestamp t4; alternate = false })) .result
+    step (step fresh (ask (record { buffer = replicate 48 0; version = 4; clock = timestamp clock; token = token clock; uptime = 0 })) .next) (arrival (record { packet = packet; t4 = timestamp t4; alternate = false })) .result
     ≡ result
 Right (secondsAre seconds d) = dateOf (timestamp (seconds * 2 ^ 32)) ≡ DateAnswer.Date d
 Right (ticksGive tick p other q) =

@@ -49,7 +49,7 @@ tests [] = []
 tests (n ∷ ns) = test n ∷ tests ns
 
 abbrev pub askOrder : List Place
-askOrder = tests (29 ∷ 1 ∷ 2 ∷ 3 ∷ 4 ∷ 5 ∷ 6 ∷ [])
+askOrder = tests (29 ∷ 1 ∷ 2 ∷ 3 ∷ 42 ∷ 4 ∷ 5 ∷ 6 ∷ [])
 
 abbrev pub arrivalOrder : List Place
 arrivalOrder = tests (29 ∷ 7 ∷ 8 ∷ 9 ∷ 10 ∷ 11 ∷ []) ++ kiss ∷ tests (3 ∷ 12 ∷ 13 ∷ 14 ∷ 33 ∷ 34 ∷ 15 ∷ 16 ∷ 17 ∷ 18 ∷ 19 ∷ [])
@@ -118,11 +118,11 @@ abbrev listRules : List Client → (at inUse : ℕ) → associations.ListCall �
 listRules list at inUse x = associations.associations .rules (record { list = list; at = at; inUse = inUse; call = x })
 
 pub record Orders : Type 0 where
-  pub ask : (c : Client) (x : Ask) → Both askOrder (askTests c (length (x .buffer)) (x .version) (x .clock) (x .uptime)) (askRules c x)
+  pub ask : (c : Client) (x : Ask) → Both askOrder (askTests c (length (x .buffer)) (x .version) (x .clock) (x .token) (x .uptime)) (askRules c x)
   pub arrival : (c : Client) (x : Arrival) → Both arrivalOrder (arrivalTests c (x .packet) (x .t4)) (arrivalRules c x)
   pub give-up : (c : Client) (x : GiveUp) → Both giveUpOrder (giveUpTests c (x .uptime)) (giveUpRules c x)
   pub list-ask : (list : List Client) (at inUse : ℕ) (x : Ask)
-      → Both (listOrder ++ askOrder) (listTests list at inUse (askTests (association list at) (length (x .buffer)) (x .version) (x .clock) (x .uptime)))
+      → Both (listOrder ++ askOrder) (listTests list at inUse (askTests (association list at) (length (x .buffer)) (x .version) (x .clock) (x .token) (x .uptime)))
       (listRules list at inUse (associations.ask x))
   pub list-arrival : (list : List Client) (at inUse : ℕ) (x : associations.ListArrival)
       → Both (listOrder ++ arrivalOrder) (listTests list at inUse (arrivalTests (association list at) (x .packet) (x .t4))) (listRules list at inUse (associations.arrival x))

@@ -6,6 +6,7 @@ use mathlib.Core.List.{List, [], _∷_}
 use lib.IntN.{pos, negℤ}
 use lib.ListN.{replicate}
 use Rattle.timestamp.specs.Timestamp.{timestamp}
+use Rattle.token.specs.Token.{token}
 use Rattle.server_packet.specs.declared.Settings.{Settings}
 use Rattle.client.specs.Record.{fresh}
 use Rattle.client.specs.Calls.{Call, ask, arrival, giveUp}
@@ -60,15 +61,15 @@ buffer = replicate 48 0
 -- one of each kind: an ask, an arrival with another originate timestamp, one of a wrong length, and a give-up too early
 abbrev pub calls : List Call
 calls =
-    ask (record { buffer = buffer; version = 4; clock = timestamp 0xFFFFFFFA80000000; uptime = 1 })
+    ask (record { buffer = buffer; version = 4; clock = timestamp 0xFFFFFFFA80000000; token = token 8; uptime = 1 })
     ∷ arrival (record { packet = buffer; t4 = timestamp 0xFFFFFFFB00000000; alternate = true })
     ∷ arrival (record { packet = replicate 47 0; t4 = timestamp 0xFFFFFFFB40000000; alternate = false })
     ∷ giveUp (record { uptime = 15 })
     ∷ []
 
--- a fresh client asks in version 4 at uptime 0
+-- a fresh client asks in version 4 with the token 7 at uptime 0
 abbrev pub run : Exchange → Run
-run e = record { exchange = e; client = fresh; buffer = buffer; version = 4; uptime = 0; settings = settings; replyBuffer = buffer; calls = calls; alternate = true }
+run e = record { exchange = e; client = fresh; buffer = buffer; version = 4; token = token 7; uptime = 0; settings = settings; replyBuffer = buffer; calls = calls; alternate = true }
 
 pub record Witnesses : Type 0 where
   pub replay-met : Premises ours (run replay)

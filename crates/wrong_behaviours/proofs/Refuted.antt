@@ -15,6 +15,7 @@ use Rattle.arithmetic.specs.TwosComplement.{signed, bits, difference}
 use Rattle.arithmetic.specs.Octets.{octets}
 use Rattle.arithmetic.proofs.Integers.{integers, size, minus}
 use Rattle.refusals.specs.Numbers.{line-malformed}
+use Rattle.timestamp.specs.declared.Timestamp.{Timestamp}
 use Rattle.timestamp.specs.Timestamp.{timestamp, fromSeconds, _since_}
 use Rattle.offset.specs.Offset.{floorHalf, halfOf, offsetTests}
 use Rattle.offset.specs.Halving.{twice}
@@ -58,11 +59,13 @@ use Rattle.demands.specs.Behaviour.{client, association, reply, broadcastArriva
 use Rattle.demands.specs.Behaviour as behaviour
 use Rattle.demands.specs.Demand3.{Exchange, reading, T2, T3, T4, Orderly, theAsk, theArrival}
 use Rattle.demands.specs.Witnesses.{replay, settings, buffer, run}
+use Rattle.demands.specs.Wire.{Asking}
+use Rattle.token.specs.Token.{token}
 use Rattle.ordered_tests.proofs.Reflection.{contradiction}
 use Rattle.demands.proofs.Form.{acceptance-shown, differs, unique}
 use Rattle.demands.proofs.Each.{each}
 use Rattle.demands.proofs.Witnesses.{orderly}
-use Rattle.wrong_behaviours.specs.Client.{refusing, alwaysWriting, anyVersion, takingNone, stayingWaiting, spending, alwaysStopping, neverStopping, kissFirst, unsignedTimes, rootUntested, negativeDelayUntested, dispersionSigned, rootSwapped, rootAfter15, fixing, measuring, zeroOffset, hugeDelay, halfLost, largeHalf, towardZero, halvedApart}
+use Rattle.wrong_behaviours.specs.Client.{refusing, alwaysWriting, anyVersion, sendingClock, takingNone, stayingWaiting, spending, alwaysStopping, neverStopping, kissFirst, anyOriginate, unsignedTimes, rootUntested, negativeDelayUntested, dispersionSigned, rootSwapped, rootAfter15, fixing, measuring, zeroOffset, hugeDelay, halfLost, largeHalf, towardZero, halvedApart}
 use Rattle.wrong_behaviours.specs.Others.{preferringFirst, forgettingUse, answeringZero, neverReplying, wrongOriginate, fourthYearDates, fourthYearTimestamps, roundedDown, takingEntries, payingAll, refusingLines, droppingDigits, startingAfresh}
 use Rattle.wrong_behaviours.specs.Refuted.{withClient, withServer, Fails1, Fails2, Fails3, Refuted}
 use Rattle.wrong_behaviours.proofs.Exchanges.{slowBack, slowOut, bothOdd, otherServer, waiting, request, replied, with-root, with-kiss, tells-other, near, inBound, concluded, in-bound}
@@ -173,13 +176,17 @@ module _ (f : Implementation clients.client) where
 abbrev fromBroadcast : List ℕ
 fromBroadcast = 0x25 ∷ 1 ∷ replicate 38 0 ++ octets 8 7
 
+-- a fresh client asks in version 4 with the token 7 at uptime 0
+abbrev freshAsk : Asking
+freshAsk = record { client = fresh; buffer = buffer; version = 4; token = token 7; uptime = 0 }
+
 -- three records that wait for the kiss RATE, one of them called
 abbrev kissed-at : (at inUse : ℕ) → ListInput
 kissed-at at inUse = record {
   list = replicate 3 (waiting slowBack);
   at = at;
   inUse = inUse;
-  call = associations.arrival (record { packet = rate 5000; t4 = T4 slowBack });
+  call = associations.arrival (record { packet = rate 7; t4 = T4 slowBack });
 }
 
 waiting-runs : Waiting ≢ Stopped
@@ -198,7 +205,11 @@ refuted =
       refuses-everything = λ number. back (refusing number) tt;
       refuses-by-0 = λ demand. demand .listed (fresh, giveUp (record { uptime = 0 })) refl;
       never-asks = λ number r p. absurd (p .ask-accepted refl);
-      any-version = differs (each client .answers) (fresh, ask (record { buffer = buffer; version = 5; clock = T4 slowBack; uptime = 0 })) (λ o. eqb (number o) 0) tt tt;
+      any-version = differs (each client .answers) (fresh, ask (record { buffer = buffer; version = 5; clock = T4 slowBack; token = token 7; uptime = 0 })) (λ o. eqb (number o) 0) tt tt;
+      sends-the-clock = (
+        differs (each client .answers) (fresh, ask (record { buffer = buffer; version = 4; clock = timestamp 8; token = token 7; uptime = 0 })) (λ o. eqb (getD (o .octets) 47 0) 8) tt tt,
+        (λ law. let e = ap (λ o. getD o 47 0) (law freshAsk (timestamp 8) (timestamp 9) (λ z. omega (arith, ap (λ (t : Timestamp). t .0) z)) (λ z. omega (arith, ap (λ (t : Timestamp). t .0) z)) .octets) in omega arith),
+      );
       fresh-with-uptime = λ demand. let e = ap (λ (c : Client). c .uptime) (demand .fresh-record) in omega arith;
       takes-no-reply = λ number. (back (takingNone number) tt, in-bound-at (takingNone number) slowBack at-back accepted-ask tt);
       stays-waiting = back stayingWaiting tt;
@@ -230,6 +241,8 @@ refuted =
         differs (each client .answers) (waiting slowBack, arrival (record { packet = buffer; t4 = T4 slowBack; alternate = true })) (λ o. eqb (number o) 0) tt tt,
         in-bound-at kissFirst slowBack at-back accepted-ask tt,
       );
+      -- a kiss to another request
+      any-originate = differs (each client .answers) (waiting slowBack, arrival (record { packet = rate 8; t4 = T4 slowBack; alternate = true })) (λ o. eqb (number o) 0) tt tt;
       root-untested = tells rootUntested (with-root slowBack (negsuc 0) 0 (T4 slowBack)) 0 tt tt;
       negative-delay-untested = tells negativeDelayUntested (with-root slowBack (negsuc 0) 0 (T4 slowBack)) 0 tt tt;
       dispersion-signed = tells dispersionSigned (with-root slowBack (pos 0) (2 ^ 31) (T4 slowBack)) 0 tt tt;
@@ -240,7 +253,7 @@ refuted =
         in-bound-at spending slowBack at-back accepted-ask tt,
       );
       writes-when-refused = (
-        (λ demand. subst (λ (o : Outcome). T (not (eqb (getD (o .octets) 0 0) 0))) (demand .unchanged (waiting slowBack, ask (record { buffer = buffer; version = 4; clock = T4 slowBack; uptime = 9 })) refl) tt),
+        (λ demand. subst (λ (o : Outcome). T (not (eqb (getD (o .octets) 0 0) 0))) (demand .unchanged (waiting slowBack, ask (record { buffer = buffer; version = 4; clock = T4 slowBack; token = token 7; uptime = 9 })) refl) tt),
         (λ demand. subst (λ (o : Outcome). T (not (eqb (getD (o .octets) 0 0) 0))) (concluded slowBack at-back (withClient alwaysWriting) accepted-ask demand .refusals .0 .is) tt),
       );
       -- record 0 is kissed and use moves to record 1; record 1 is kissed while record 0 is in use, and use stays at 0

@@ -11,6 +11,7 @@ use Rattle.refusals.specs.Numbers.{record-not-legal, packet-length-wrong, not-w
 use Rattle.ordered_tests.specs.Tests.{Tests, _if_else_, _when_else_, answer, kept, carry}
 use Rattle.timestamp.specs.declared.Timestamp.{Timestamp}
 use Rattle.timestamp.specs.Timestamp.{timestamp, _since_, negative}
+use Rattle.token.specs.Token.{token}
 use Rattle.offset.specs.Offset.{floorHalf, offsetTests}
 use Rattle.packet.specs.declared.Fields.{Fields}
 use Rattle.packet.specs.Packet.{wrongLength, fieldsOf}
@@ -18,7 +19,7 @@ use Rattle.sanity.specs.Sanity.{headerTests, rootDelayOutOfRange, rootDispersio
 use Rattle.client.specs.declared.Client.{Client}
 use Rattle.client.specs.declared.Phase.the-variants.{Idle}
 use Rattle.reply_checks.specs.declared.ArrivalAnswer.{ArrivalAnswer}
-use Rattle.reply_checks.specs.Checks.{matchTests, fromOffset}
+use Rattle.reply_checks.specs.Checks.{matchTests, checkTests, fromOffset}
 use Rattle.kiss.specs.Kiss.{rowOf}
 use Rattle.client.specs.Record.{isWaiting, illegal, withoutRequest}
 use Rattle.request.specs.Request.{request}
@@ -31,7 +32,7 @@ use Rattle.demands.specs.Measure.{Four, P, Q, d, offset, half}
 
 -- a record of a client that has never asked, with an uptime
 abbrev pub laterStart : Client
-laterStart = record { phase = Idle; transmit = timestamp 0; version = 0; asked = false; uptime = 1; exponent = 6 }
+laterStart = record { phase = Idle; t1 = timestamp 0; token = token 0; version = 0; asked = false; uptime = 1; exponent = 6 }
 
 -- ---- at every call
 
@@ -41,7 +42,7 @@ refusing number (c, x) = record { result = refused (number c x); next = c; octet
 
 -- it writes a request whether it refuses or not
 abbrev asksFor : Call → List ℕ
-asksFor (ask x) = take (length (x .buffer)) (request (x .version) (x .clock) ++ drop 48 (x .buffer))
+asksFor (ask x) = take (length (x .buffer)) (request (x .version) (x .token) ++ drop 48 (x .buffer))
 asksFor (arrival x) = x .packet
 asksFor (giveUp x) = []
 
@@ -52,9 +53,15 @@ alwaysWriting (c, x) = record { result = step c x .result; next = step c x .next
 
 -- it takes a version above 4 for 4
 abbrev pub anyVersion : Implementation client
-anyVersion (c, ask x) = step c (ask (record { buffer = x .buffer; version = min (x .version) 4; clock = x .clock; uptime = x .uptime }))
+anyVersion (c, ask x) = step c (ask (record { buffer = x .buffer; version = min (x .version) 4; clock = x .clock; token = x .token; uptime = x .uptime }))
 anyVersion (c, arrival x) = step c (arrival x)
 anyVersion (c, giveUp x) = step c (giveUp x)
+
+-- its request carries the clock reading in place of the token
+abbrev pub sendingClock : Implementation client
+sendingClock (c, ask x) = step c (ask (record { buffer = x .buffer; version = x .version; clock = x .clock; token = token (x .clock .0); uptime = x .uptime }))
+sendingClock (c, arrival x) = step c (arrival x)
+sendingClock (c, giveUp x) = step c (giveUp x)
 
 -- ---- at an arrival
 
@@ -113,6 +120,15 @@ kissFirst = testing (λ c x.
     kissed (fieldsOf (x .packet)) when eqb (fieldsOf (x .packet) .stratum) 0 else
     arrivalTests c (x .packet) (x .t4))
 
+-- it takes a packet with any originate timestamp for the reply
+abbrev pub anyOriginate : Implementation client
+anyOriginate = testing (λ c x.
+    let f = fieldsOf (x .packet) in
+    record-not-legal if illegal c else
+    packet-length-wrong if wrongLength (x .packet) else
+    not-waiting if not (isWaiting (c .phase)) else
+    checkTests (c .t1) (token (f .originate .0)) (c .version) f (x .t4))
+
 -- it makes other tests of the root fields and the four timestamps of a reply
 abbrev checking : (Client → Fields → Timestamp → Tests ArrivalAnswer) → Implementation client
 checking rest = testing (λ c x.
@@ -120,14 +136,14 @@ checking rest = testing (λ c x.
     record-not-legal if illegal c else
     packet-length-wrong if wrongLength (x .packet) else
     not-waiting if not (isWaiting (c .phase)) else
-    matchTests (c .transmit) (c .version) f (
+    matchTests (c .token) (c .version) f (
     kissed f when eqb (f .stratum) 0 else
     headerTests f (x .t4) (rest c f (x .t4))))
 
 -- the tests of the four timestamps, their differences taken so
 abbrev timed : (Timestamp → Timestamp → ℤ) → Client → Fields → Timestamp → Tests ArrivalAnswer
 timed less c f t4 =
-    carry fromOffset (offsetTests (less t4 (c .transmit)) (less (f .transmit) (f .receive)) (less (f .receive) (c .transmit)) (less (f .transmit) t4))
+    carry fromOffset (offsetTests (less t4 (c .t1)) (less (f .transmit) (f .receive)) (less (f .receive) (c .t1)) (less (f .transmit) t4))
 
 -- it compares timestamps as plain unsigned numbers
 abbrev pub unsignedTimes : Implementation client
@@ -161,7 +177,7 @@ rootSwapped = checking (λ c f t4.
 -- it tests the root fields after T4 - T1
 abbrev pub rootAfter15 : Implementation client
 rootAfter15 = checking (λ c f t4.
-    arrived-before-sent if negative (t4 since c .transmit) else
+    arrived-before-sent if negative (t4 since c .t1) else
     rootTests f (timed _since_ c f t4))
 
 -- ---- at a reply that ours accepts: it tells something else

@@ -15,7 +15,8 @@ use Rattle.demands.specs.Behaviour.{Operation, client, association, reply, broa
 use Rattle.demands.specs.Demand2.{Demand2}
 use Rattle.demands.specs.Demand3.{Demand3}
 use Rattle.demands.specs.SingleServer.{NeverStops}
-use Rattle.wrong_behaviours.specs.Client.{laterStart, refusing, alwaysWriting, anyVersion, takingNone, stayingWaiting, spending, alwaysStopping, neverStopping, kissFirst, unsignedTimes, rootUntested, negativeDelayUntested, dispersionSigned, rootSwapped, rootAfter15, fixing, measuring, zeroOffset, hugeDelay, halfLost, largeHalf, towardZero, halvedApart}
+use Rattle.demands.specs.Wire.{ClockUnseen}
+use Rattle.wrong_behaviours.specs.Client.{laterStart, refusing, alwaysWriting, anyVersion, sendingClock, takingNone, stayingWaiting, spending, alwaysStopping, neverStopping, kissFirst, anyOriginate, unsignedTimes, rootUntested, negativeDelayUntested, dispersionSigned, rootSwapped, rootAfter15, fixing, measuring, zeroOffset, hugeDelay, halfLost, largeHalf, towardZero, halvedApart}
 use Rattle.wrong_behaviours.specs.Others.{preferringFirst, forgettingUse, answeringZero, neverReplying, wrongOriginate, replyingAnyway, readingNothing, writingNothing, fourthYearDates, fourthYearTimestamps, roundedDown, refusingEntries, takingEntries, payingAll, refusingLines, droppingDigits, startingAfresh}
 
 -- ours with this client
@@ -87,6 +88,7 @@ pub record Refuted : Type 0 where
   -- demand 3 alone lets one pass that never asks: its premise is an ask that was not refused
   pub never-asks : (number : Client → Call → ℕ) → Demand3 (withClient (refusing number))
   pub any-version : Fails2 client anyVersion
+  pub sends-the-clock : Fails2 client sendingClock × (ClockUnseen (withClient sendingClock) → ⊥)
   pub fresh-with-uptime : Demand2 (withFresh laterStart) → ⊥
   pub takes-no-reply : (number : Client → Arrival → ℕ) → Client23 (takingNone number)
   pub stays-waiting : Fails2 client stayingWaiting
@@ -101,6 +103,7 @@ pub record Refuted : Type 0 where
   pub always-stops : Fails2 client alwaysStopping × (NeverStops (withClient alwaysStopping) → ⊥)
   pub never-stops : Fails2 client neverStopping
   pub kiss-before-originate : Client23 kissFirst
+  pub any-originate : Fails2 client anyOriginate
   pub root-untested : Fails2 client rootUntested
   pub negative-delay-untested : Fails2 client negativeDelayUntested
   pub dispersion-signed : Fails2 client dispersionSigned
