@@ -1,6 +1,6 @@
 //! The arrival of a packet at the client: docs/RULES.md, "The client".
 
-use crate::client::{Client, LEAST_EXPONENT, Phase, legal, raised, without_request};
+use crate::client::{Client, LEAST_EXPONENT, Phase, Token, legal, raised, without_request};
 use crate::kiss;
 use crate::packet::{self, Fields};
 use crate::refusal::Refusal::{self, *};
@@ -33,7 +33,7 @@ pub fn arrival(
     RecordNotLegal.when(!legal(client))?;
     let fields = packet::read(packet)?;
     NotWaiting.when(client.phase != Phase::Waiting)?;
-    OriginateMismatch.when(fields.originate != client.transmit)?;
+    OriginateMismatch.when(Token(fields.originate) != client.token)?;
     ReplyModeWrong.when(fields.mode != 4)?;
     VersionMismatch.when(fields.version != client.version)?;
     if fields.stratum == 0 {
@@ -41,7 +41,7 @@ pub fn arrival(
     }
     OwnClockZero.when(t4 == 0)?;
     test_fields(&fields)?;
-    let measured = timestamp::measure(client.transmit, fields.receive, fields.transmit, t4)?;
+    let measured = timestamp::measure(client.t1, fields.receive, fields.transmit, t4)?;
     let next = without_request(client, Phase::Idle, LEAST_EXPONENT);
     Ok(Arrived { told: Told::Accepted(measured), next })
 }

@@ -1,7 +1,7 @@
 //! The associations of a gateway: docs/RULES.md, "Associations".
 
 use crate::arrival::{self, Arrived, Told};
-use crate::client::{self, Client, Phase};
+use crate::client::{self, Client, Phase, Token};
 use crate::refusal::Refusal::{self, *};
 
 /// As many records as a list may have.
@@ -50,9 +50,10 @@ impl Associations {
         buffer: &mut [u8],
         version: u8,
         clock: u64,
+        token: Token,
         uptime: u64,
     ) -> Result<Associations, Refusal> {
-        let next = client::ask(self.addressed(number)?, buffer, version, clock, uptime)?;
+        let next = client::ask(self.addressed(number)?, buffer, version, clock, token, uptime)?;
         Ok(self.with_record(number, next))
     }
 

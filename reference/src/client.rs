@@ -15,10 +15,20 @@ pub enum Phase {
     Stopped,
 }
 
+/// What a request's transmit field carries, so that it does not show the clock. It is no timestamp.
+#[derive(Clone, Copy, PartialEq, Eq, Debug)]
+pub struct Token(pub u64);
+
+impl Token {
+    pub const ZERO: Token = Token(0);
+}
+
 #[derive(Clone, Copy, PartialEq, Eq, Debug)]
 pub struct Client {
     pub phase: Phase,
-    pub transmit: u64,
+    /// The clock reading at the request.
+    pub t1: u64,
+    pub token: Token,
     pub version: u8,
     pub asked: bool,
     pub uptime: u64,
@@ -27,7 +37,8 @@ pub struct Client {
 
 pub const FRESH: Client = Client {
     phase: Phase::Idle,
-    transmit: 0,
+    t1: 0,
+    token: Token::ZERO,
     version: 0,
     asked: false,
     uptime: 0,
@@ -35,10 +46,10 @@ pub const FRESH: Client = Client {
 };
 
 pub fn legal(client: &Client) -> bool {
-    let request = (client.transmit, client.version);
+    let Client { t1, token, version, .. } = *client;
     let request_legal = match client.phase {
-        Phase::Waiting => client.transmit != 0 && (1..=4).contains(&client.version),
-        Phase::Idle | Phase::Stopped => request == (0, 0),
+        Phase::Waiting => t1 != 0 && token != Token::ZERO && (1..=4).contains(&version),
+        Phase::Idle | Phase::Stopped => (t1, token, version) == (0, Token::ZERO, 0),
     };
     let exponent_legal = (LEAST_EXPONENT..=LARGEST_EXPONENT).contains(&client.exponent);
     request_legal && exponent_legal && (client.asked || *client == FRESH)
@@ -46,7 +57,7 @@ pub fn legal(client: &Client) -> bool {
 
 /// The client after its request is done with.
 pub fn without_request(client: &Client, phase: Phase, exponent: u8) -> Client {
-    Client { phase, transmit: 0, version: 0, exponent, ..*client }
+    Client { phase, t1: 0, token: Token::ZERO, version: 0, exponent, ..*client }
 }
 
 /// The exponent after a request that brought no time.
@@ -66,19 +77,22 @@ pub fn ask(
     buffer: &mut [u8],
     version: u8,
     clock: u64,
+    token: Token,
     uptime: u64,
 ) -> Result<Client, Refusal> {
     RecordNotLegal.when(!legal(client))?;
     BufferTooShort.when(buffer.len() < packet::LENGTH)?;
     VersionUnsupported.when(!(1..=4).contains(&version))?;
     OwnClockZero.when(clock == 0)?;
+    TokenZero.when(token == Token::ZERO)?;
     ClientStopped.when(client.phase == Phase::Stopped)?;
     AlreadyWaiting.when(client.phase == Phase::Waiting)?;
     AskedTooSoon.when(too_soon(client, uptime))?;
-    packet::write(&Fields { version, mode: 3, transmit: clock, ..Fields::default() }, buffer)?;
+    packet::write(&Fields { version, mode: 3, transmit: token.0, ..Fields::default() }, buffer)?;
     Ok(Client {
         phase: Phase::Waiting,
-        transmit: clock,
+        t1: clock,
+        token,
         version,
         asked: true,
         uptime,
@@ -100,13 +114,15 @@ mod tests {
 
     const WAITING: Client = Client {
         phase: Phase::Waiting,
-        transmit: 1 << 32,
+        t1: 1 << 32,
+        token: Token(7),
         version: 4,
         asked: true,
         uptime: 100,
         exponent: 6,
     };
-    const STOPPED: Client = Client { phase: Phase::Stopped, asked: true, ..FRESH };
+    const IDLE: Client = Client { asked: true, ..FRESH };
+    const STOPPED: Client = Client { phase: Phase::Stopped, ..IDLE };
 
     #[test]
     fn poll_intervals() {
@@ -114,10 +130,10 @@ mod tests {
             let c = Client { asked: true, uptime: 1000, exponent, ..FRESH };
             let due = 1000 + (1u64 << exponent);
             let mut buffer = [7; 50];
-            assert_eq!(ask(&c, &mut buffer, 4, 1, due - 1), Err(AskedTooSoon));
-            assert_eq!(ask(&c, &mut buffer, 4, 1, 999), Err(AskedTooSoon));
+            assert_eq!(ask(&c, &mut buffer, 4, 1, Token(1), due - 1), Err(AskedTooSoon));
+            assert_eq!(ask(&c, &mut buffer, 4, 1, Token(1), 999), Err(AskedTooSoon));
             assert_eq!(buffer, [7; 50]);
-            assert!(ask(&c, &mut buffer, 4, 1, due).is_ok());
+            assert!(ask(&c, &mut buffer, 4, 1, Token(1), due).is_ok());
             assert_eq!(buffer[48..], [7, 7]);
         }
     }
@@ -126,18 +142,19 @@ mod tests {
     fn poll_intervals_do_not_wrap() {
         let late = Client { asked: true, uptime: u64::MAX - 10, ..FRESH };
         let mut buffer = [7; 48];
-        assert_eq!(ask(&late, &mut buffer, 4, 1, u64::MAX), Err(AskedTooSoon));
-        assert_eq!(ask(&late, &mut buffer, 4, 1, 60), Err(AskedTooSoon));
-        assert!(ask(&FRESH, &mut buffer, 4, 1, 0).is_ok());
+        assert_eq!(ask(&late, &mut buffer, 4, 1, Token(1), u64::MAX), Err(AskedTooSoon));
+        assert_eq!(ask(&late, &mut buffer, 4, 1, Token(1), 60), Err(AskedTooSoon));
+        assert!(ask(&FRESH, &mut buffer, 4, 1, Token(1), 0).is_ok());
     }
 
     #[test]
     fn request() {
         let mut buffer = [7; 48];
-        let waiting = ask(&FRESH, &mut buffer, 3, 0x0102_0304_0506_0708, 9);
+        let waiting = ask(&FRESH, &mut buffer, 3, 5, Token(0x0102_0304_0506_0708), 9);
         let wanted = Client {
             phase: Phase::Waiting,
-            transmit: 0x0102_0304_0506_0708,
+            t1: 5,
+            token: Token(0x0102_0304_0506_0708),
             version: 3,
             asked: true,
             uptime: 9,
@@ -150,16 +167,40 @@ mod tests {
     }
 
     #[test]
+    fn request_does_not_show_the_clock() {
+        let request = |clock, token| {
+            let mut buffer = [7; 48];
+            let waiting = ask(&FRESH, &mut buffer, 4, clock, token, 9).unwrap();
+            assert_eq!((waiting.t1, waiting.token), (clock, token));
+            buffer
+        };
+        for token in [1, 5, 1 << 32, u64::MAX].map(Token) {
+            for clock in [2, 5, 1 << 32, u64::MAX] {
+                assert_eq!(request(clock, token), request(1, token));
+            }
+            assert_eq!(request(5, token)[40..], token.0.to_be_bytes());
+        }
+    }
+
+    #[test]
     fn ask_order() {
         let mut buffer = [7; 48];
-        assert_eq!(ask(&STOPPED, &mut buffer[..47], 0, 0, 0), Err(BufferTooShort));
-        assert_eq!(ask(&STOPPED, &mut buffer, 0, 0, 0), Err(VersionUnsupported));
-        assert_eq!(ask(&STOPPED, &mut buffer, 5, 0, 0), Err(VersionUnsupported));
-        assert_eq!(ask(&STOPPED, &mut buffer, 4, 0, 0), Err(OwnClockZero));
-        assert_eq!(ask(&STOPPED, &mut buffer, 4, 1, 0), Err(ClientStopped));
-        assert_eq!(ask(&WAITING, &mut buffer, 4, 1, 0), Err(AlreadyWaiting));
         let illegal = Client { exponent: 5, ..FRESH };
-        assert_eq!(ask(&illegal, &mut buffer[..0], 0, 0, 0), Err(RecordNotLegal));
+        let mut number = |client: Client, length, version, clock, token| {
+            ask(&client, &mut buffer[..length], version, clock, Token(token), 0).unwrap_err()
+        };
+        assert_eq!(number(illegal, 0, 0, 0, 0), RecordNotLegal);
+        assert_eq!(number(STOPPED, 47, 0, 0, 0), BufferTooShort);
+        assert_eq!(number(STOPPED, 48, 0, 0, 0), VersionUnsupported);
+        assert_eq!(number(STOPPED, 48, 5, 0, 0), VersionUnsupported);
+        assert_eq!(number(STOPPED, 48, 4, 0, 0), OwnClockZero);
+        assert_eq!(number(STOPPED, 48, 4, 0, 1), OwnClockZero);
+        for client in [STOPPED, WAITING, IDLE, FRESH] {
+            assert_eq!(number(client, 48, 4, 1, 0), TokenZero);
+        }
+        assert_eq!(number(STOPPED, 48, 4, 1, 1), ClientStopped);
+        assert_eq!(number(WAITING, 48, 4, 1, 1), AlreadyWaiting);
+        assert_eq!(number(IDLE, 48, 4, 1, 1), AskedTooSoon);
         assert_eq!(buffer, [7; 48]);
     }
 
@@ -183,12 +224,17 @@ mod tests {
         let illegal = [
             Client { exponent: 5, ..WAITING },
             Client { exponent: 15, ..WAITING },
-            Client { transmit: 0, ..WAITING },
+            Client { t1: 0, ..WAITING },
+            Client { token: Token::ZERO, ..WAITING },
             Client { version: 0, ..WAITING },
             Client { version: 5, ..WAITING },
             Client { asked: false, ..WAITING },
-            Client { transmit: 1, ..STOPPED },
+            Client { t1: 1, ..STOPPED },
+            Client { token: Token(1), ..STOPPED },
             Client { version: 4, ..STOPPED },
+            Client { t1: 1, ..IDLE },
+            Client { token: Token(1), ..IDLE },
+            Client { version: 4, ..IDLE },
             Client { asked: false, ..STOPPED },
             Client { exponent: 7, ..FRESH },
             Client { uptime: 1, ..FRESH },
@@ -196,7 +242,8 @@ mod tests {
         for client in illegal {
             assert!(!legal(&client), "{client:?}");
         }
-        assert!(legal(&FRESH) && legal(&WAITING) && legal(&STOPPED));
+        assert!(legal(&FRESH) && legal(&WAITING) && legal(&IDLE) && legal(&STOPPED));
+        assert!(legal(&Client { token: Token(WAITING.t1), ..WAITING }));
         assert!(legal(&Client { uptime: u64::MAX, exponent: 9, ..STOPPED }));
     }
 }

@@ -45,13 +45,14 @@ pub enum Refusal {
     BroadcastStratumWrong = 39,
     BroadcastTransmitZero = 40,
     PollOutOfRange = 41,
+    TokenZero = 42,
     LineMalformed = 64,
 }
 
 use Refusal::*;
 
 /// All refusals, in the order of their numbers.
-const ALL: [Refusal; 42] = [
+const ALL: [Refusal; 43] = [
     BufferTooShort,
     VersionUnsupported,
     OwnClockZero,
@@ -93,6 +94,7 @@ const ALL: [Refusal; 42] = [
     BroadcastStratumWrong,
     BroadcastTransmitZero,
     PollOutOfRange,
+    TokenZero,
     LineMalformed,
 ];
 
@@ -147,7 +149,7 @@ mod tests {
     #[test]
     fn numbers_there_and_back() {
         for number in 0..=255 {
-            let known = (1..=41).contains(&number) || number == 64;
+            let known = (1..=42).contains(&number) || number == 64;
             let back = Refusal::of_number(number).map(Refusal::number);
             assert_eq!(back, known.then_some(number));
         }

@@ -1,7 +1,7 @@
 //! The replay: one client, one frame a line: docs/RULES.md, "Replay lines".
 
 use crate::arrival::{Told, arrival};
-use crate::client::{Client, FRESH, ask, give_up};
+use crate::client::{Client, FRESH, Token, ask, give_up};
 use crate::hex_lines::answer_lines;
 use crate::octets::{Reader, Short};
 use crate::packet::{LENGTH, LENGTH_WITH_AUTHENTICATOR};
@@ -22,7 +22,7 @@ pub const BEFORE_PACKET: usize = 1 + 8 + 8;
 pub const LONGEST_PACKET: usize = LENGTH_WITH_AUTHENTICATOR;
 
 enum Frame<'a> {
-    Ask { uptime: u64, clock: u64 },
+    Ask { uptime: u64, clock: u64, token: Token },
     Arrival { clock: u64, packet: &'a [u8] },
     GiveUp { uptime: u64 },
 }
@@ -32,11 +32,14 @@ fn frame(line: &[u8]) -> Result<Frame<'_>, Refusal> {
     let mut head =
         || -> Result<(u8, u64, u64), Short> { Ok((octets.u8()?, octets.u64()?, octets.u64()?)) };
     let (operation, uptime, clock) = head().map_err(|Short| LineMalformed)?;
-    let packet = octets.rest();
+    let rest = octets.rest();
     match operation {
-        ASK if packet.is_empty() => Ok(Frame::Ask { uptime, clock }),
-        ARRIVAL if packet.len() <= LONGEST_PACKET => Ok(Frame::Arrival { clock, packet }),
-        GIVE_UP if packet.is_empty() => Ok(Frame::GiveUp { uptime }),
+        ASK => {
+            let token = rest.try_into().map_err(|_| LineMalformed)?;
+            Ok(Frame::Ask { uptime, clock, token: Token(u64::from_be_bytes(token)) })
+        }
+        ARRIVAL if rest.len() <= LONGEST_PACKET => Ok(Frame::Arrival { clock, packet: rest }),
+        GIVE_UP if rest.is_empty() => Ok(Frame::GiveUp { uptime }),
         _ => Err(LineMalformed),
     }
 }
@@ -56,9 +59,9 @@ fn put_told(told: &Told, out: &mut Vec<u8>) {
 
 fn call(client: &mut Client, line: &[u8], out: &mut Vec<u8>) -> Result<(), Refusal> {
     match frame(line)? {
-        Frame::Ask { uptime, clock } => {
+        Frame::Ask { uptime, clock, token } => {
             let mut packet = [0; LENGTH];
-            *client = ask(client, &mut packet, VERSION, clock, uptime)?;
+            *client = ask(client, &mut packet, VERSION, clock, token, uptime)?;
             out.push(0);
             out.extend(packet);
         }

@@ -1,15 +1,25 @@
 //! Each test of an arrival on both sides, and the order of the tests.
 
 use reference::arrival::{Told, arrival};
-use reference::client::{Client, FRESH, Phase};
+use reference::client::{Client, FRESH, Phase, Token};
 use reference::kiss::CODES;
 use reference::packet::{self, Fields};
 use reference::refusal::Refusal::{self, *};
+use reference::timestamp::Measured;
 
 const T: u64 = 1 << 32;
 
-const WAITING: Client =
-    Client { phase: Phase::Waiting, transmit: T, version: 4, asked: true, uptime: 100, ..FRESH };
+const TOKEN: u64 = 0x0123_4567_89AB_CDEF;
+
+const WAITING: Client = Client {
+    phase: Phase::Waiting,
+    t1: T,
+    token: Token(TOKEN),
+    version: 4,
+    asked: true,
+    uptime: 100,
+    ..FRESH
+};
 
 const GOOD: Fields = Fields {
     leap: 0,
@@ -22,7 +32,7 @@ const GOOD: Fields = Fields {
     root_dispersion: 0,
     identifier: [0; 4],
     reference: 0,
-    originate: T,
+    originate: TOKEN,
     receive: T,
     transmit: T,
 };
@@ -71,7 +81,8 @@ fn outcome_with(alternate: bool, fields: Fields, t4: u64) -> Outcome {
 #[test]
 fn fields() {
     assert_eq!(outcome(GOOD, T), Accepted);
-    assert_eq!(outcome(Fields { originate: T + 1, ..GOOD }, T), Refused(OriginateMismatch));
+    assert_eq!(outcome(Fields { originate: TOKEN + 1, ..GOOD }, T), Refused(OriginateMismatch));
+    assert_eq!(outcome(Fields { originate: T, ..GOOD }, T), Refused(OriginateMismatch));
     assert_eq!(outcome(Fields { mode: 3, ..GOOD }, T), Refused(ReplyModeWrong));
     assert_eq!(outcome(Fields { version: 3, ..GOOD }, T), Refused(VersionMismatch));
     assert_eq!(outcome(Fields { stratum: 0, ..GOOD }, 0), Kiss(0));
@@ -82,6 +93,23 @@ fn fields() {
     assert_eq!(outcome(Fields { stratum: 16, ..GOOD }, T), Refused(StratumTooHigh));
     assert_eq!(outcome(Fields { receive: 0, ..GOOD }, T), Refused(ServerTimestampZero));
     assert_eq!(outcome(Fields { transmit: 0, ..GOOD }, T), Refused(ServerTimestampZero));
+}
+
+#[test]
+fn the_token_is_compared_and_t1_is_measured() {
+    for (t1, token) in [(T, 1), (T, T), (T, T + 1), (1, T), (u64::MAX, T)] {
+        let client = Client { t1, token: Token(token), ..WAITING };
+        let t4 = t1.wrapping_add(2);
+        for originate in [0, 1, T, T + 1, u64::MAX] {
+            let mut octets = [0; 48];
+            let fields = Fields { originate, receive: t4, transmit: t4, ..GOOD };
+            packet::write(&fields, &mut octets).unwrap();
+            let told = arrival(&client, &octets, t4, false).map(|arrived| arrived.told);
+            let measured = Told::Accepted(Measured { offset: 1, half: 0, delay: 2 });
+            let wanted = if originate == token { Ok(measured) } else { Err(OriginateMismatch) };
+            assert_eq!(told, wanted);
+        }
+    }
 }
 
 #[test]
@@ -140,7 +168,7 @@ fn root_dispersions() {
 #[test]
 fn root_fields_come_after() {
     let wrong = BAD_ROOTS;
-    assert_eq!(outcome(Fields { originate: T + 1, ..wrong }, T), Refused(OriginateMismatch));
+    assert_eq!(outcome(Fields { originate: T, ..wrong }, T), Refused(OriginateMismatch));
     assert_eq!(outcome(Fields { mode: 3, ..wrong }, T), Refused(ReplyModeWrong));
     assert_eq!(outcome(Fields { version: 3, ..wrong }, T), Refused(VersionMismatch));
     assert_eq!(outcome(wrong, 0), Refused(OwnClockZero));

@@ -3,7 +3,7 @@
 
 use reference::arrival::Told;
 use reference::associations::Associations;
-use reference::client::{Client, FRESH, Phase, ask, give_up};
+use reference::client::{Client, FRESH, Phase, Token, ask, give_up};
 use reference::packet::{self, Fields};
 use reference::refusal::Refusal::{self, *};
 
@@ -13,9 +13,15 @@ const IDLE: Client = Client { asked: true, uptime: 1000, ..FRESH };
 const STOPPED: Client = Client { phase: Phase::Stopped, ..IDLE };
 const ILLEGAL: Client = Client { exponent: 15, ..IDLE };
 
+/// The token of the request of a record's number, which is the T1 of the next one's.
+fn token(number: usize) -> Token {
+    Token(T + number as u64 + 1)
+}
+
 /// The waiting record of a number, which sent at a clock of its own.
 fn waiting(number: usize) -> Client {
-    Client { phase: Phase::Waiting, transmit: T + number as u64, version: 4, ..IDLE }
+    let (t1, token) = (T + number as u64, token(number));
+    Client { phase: Phase::Waiting, t1, token, version: 4, ..IDLE }
 }
 
 fn reply_to(number: usize, stratum: u8) -> [u8; 48] {
@@ -25,7 +31,7 @@ fn reply_to(number: usize, stratum: u8) -> [u8; 48] {
         mode: 4,
         stratum,
         identifier: *b"RATE",
-        originate: clock,
+        originate: token(number).0,
         receive: clock,
         transmit: clock,
         ..Fields::default()
@@ -55,13 +61,14 @@ fn use_wraps_past_a_stopped_record_and_the_last_record_left_backs_off() {
     let backed_off = kissed(&wrapped, 0);
     assert_eq!(backed_off, list(&[raised, STOPPED, STOPPED], 0));
     let mut request = [0; 48];
-    assert_eq!(backed_off.ask(0, &mut request, 4, T, 1127), Err(AskedTooSoon));
-    assert_eq!(backed_off.ask(1, &mut request, 4, T, 5000), Err(ClientStopped));
+    assert_eq!(backed_off.ask(0, &mut request, 4, T, token(0), 1127), Err(AskedTooSoon));
+    assert_eq!(backed_off.ask(1, &mut request, 4, T, token(0), 5000), Err(ClientStopped));
+    assert_eq!(backed_off.ask(1, &mut request, 4, T, Token::ZERO, 5000), Err(TokenZero));
     assert_eq!(request, [0; 48]);
-    let asked = backed_off.ask(0, &mut request, 4, T, 1128).unwrap();
+    let asked = backed_off.ask(0, &mut request, 4, T, token(0), 1128).unwrap();
     let waiting = Client { uptime: 1128, exponent: 7, ..waiting(0) };
     assert_eq!(asked, list(&[waiting, STOPPED, STOPPED], 0));
-    assert_eq!(request[40..], T.to_be_bytes());
+    assert_eq!(request[40..], token(0).0.to_be_bytes());
     let given_up = asked.give_up(0, 1144).unwrap();
     let idle = Client { uptime: 1128, exponent: 8, ..IDLE };
     assert_eq!(given_up, list(&[idle, STOPPED, STOPPED], 0));
@@ -99,7 +106,7 @@ fn the_alternate_among_each_choice_of_stopped_records() {
 fn numbers(records: &[Client], in_use: usize, number: usize) -> [Option<Refusal>; 3] {
     let list = list(records, in_use);
     let mut buffer = [7; 48];
-    let asked = list.ask(number, &mut buffer, 4, T, 5000);
+    let asked = list.ask(number, &mut buffer, 4, T, token(number), 5000);
     assert!(asked.is_ok() || buffer == [7; 48]);
     let arrived = list.arrival(number, &reply_to(number, 0), T);
     [asked.err(), arrived.err(), list.give_up(number, 5000).err()]
@@ -133,7 +140,7 @@ fn an_illegal_record_anywhere() {
         records[place] = ILLEGAL;
         assert_eq!(numbers(&records, 3, number), [Some(RecordNotLegal); 3]);
         let list = list(&records, 3);
-        assert_eq!(list.ask(number, &mut [], 0, 0, 0), Err(RecordNotLegal));
+        assert_eq!(list.ask(number, &mut [], 0, 0, Token::ZERO, 0), Err(RecordNotLegal));
         assert_eq!(list.arrival(number, &[], 0).err(), Some(RecordNotLegal));
         assert_eq!(list.give_up(number, 0), Err(RecordNotLegal));
     }
@@ -152,8 +159,8 @@ fn an_ask_changes_the_record_that_it_is_for() {
     let before = mixed(2, STOPPED);
     for number in [1, 4, 5] {
         let (mut alone, mut of_list) = ([7; 50], [7; 50]);
-        let next = ask(&before.records[number], &mut alone, 3, T, 9000).unwrap();
-        let asked = before.ask(number, &mut of_list, 3, T, 9000);
+        let next = ask(&before.records[number], &mut alone, 3, T, token(number), 9000).unwrap();
+        let asked = before.ask(number, &mut of_list, 3, T, token(number), 9000);
         assert_eq!(asked, Ok(mixed(number, next)));
         assert_eq!(alone, of_list);
     }

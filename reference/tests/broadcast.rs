@@ -3,7 +3,7 @@
 
 use reference::arrival::arrival;
 use reference::broadcast;
-use reference::client::{Client, FRESH, Phase};
+use reference::client::{Client, FRESH, Phase, Token};
 use reference::random::Random;
 use reference::refusal::Refusal::*;
 use reference::server::Settings;
@@ -67,7 +67,8 @@ fn a_unicast_client_refuses_it() {
     let stopped = Client { phase: Phase::Stopped, ..idle };
     for _ in 0..10_000 {
         let (t3, t4, version) = (r.number(), r.number(), 1 + r.octet_below(4));
-        let waiting = Client { phase: Phase::Waiting, transmit: t3, version, ..idle };
+        let token = Token(if r.one_in(2) { t3 } else { r.number() });
+        let waiting = Client { phase: Phase::Waiting, t1: t3, token, version, ..idle };
         let (synchronised, alternate) = (r.one_in(2), r.one_in(2));
         let packet = written(&mut r, synchronised, t3);
         assert_eq!(arrival(&waiting, &packet, t4, alternate).err(), Some(OriginateMismatch));

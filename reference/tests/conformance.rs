@@ -13,7 +13,7 @@ fn one(input: &str) -> String {
 #[test]
 fn small_operations() {
     assert_eq!(said(""), "");
-    assert_eq!(one("F0"), "000000000000000000000000000000000000000006");
+    assert_eq!(one("F0"), format!("00{FRESH}"));
     assert_eq!(one("f1"), "00000000000000000000000001000000000000001000000000");
     assert_eq!(one("0100000000000000010000000000000002"), "00FFFFFFFFFFFFFFFF");
     assert_eq!(one("0700000000000010C7"), "00ED");
@@ -74,17 +74,47 @@ fn buffers_are_shown() {
     assert_eq!(text, format!("00FF{}8A8B", "00".repeat(47)));
 }
 
-const FRESH: &str = "0000000000000000000000000000000000000006";
-const WAITING: &str = "01FFFFFFFA000000000401000000000000000706";
-const IDLE: &str = "0000000000000000000001000000000000000706";
-const RAISED: &str = "0000000000000000000001000000000000000707";
-const STOPPED: &str = "0200000000000000000001000000000000000706";
-const REPLY: &str = "240100EC0000000000000000475053000000000400000000FFFFFFFA0000000000000004800000000000000580000000";
+const TOKEN: &str = "0123456789ABCDEF";
+const FRESH: &str = "00000000000000000000000000000000000000000000000000000006";
+const WAITING: &str = "01FFFFFFFA000000000123456789ABCDEF0401000000000000000706";
+const IDLE: &str = "00000000000000000000000000000000000001000000000000000706";
+const RAISED: &str = "00000000000000000000000000000000000001000000000000000707";
+const STOPPED: &str = "02000000000000000000000000000000000001000000000000000706";
+const REPLY: &str = "240100EC00000000000000004750530000000004000000000123456789ABCDEF00000004800000000000000580000000";
 
 #[test]
 fn asks() {
-    let text = one(&format!("08{FRESH}3004FFFFFFFA000000000000000000000007"));
-    assert_eq!(text, format!("00{WAITING}23{}FFFFFFFA00000000", "00".repeat(39)));
+    let text = one(&format!("08{FRESH}3004FFFFFFFA00000000{TOKEN}0000000000000007"));
+    assert_eq!(text, format!("00{WAITING}23{}{TOKEN}", "00".repeat(39)));
+    let number = |record: &str, clock: &str, token: &str| {
+        one(&format!("08{record}3004{clock}{token}0000000000000007"))[..2].to_string()
+    };
+    let zero = "0000000000000000";
+    for record in [FRESH, IDLE, WAITING, STOPPED] {
+        assert_eq!(number(record, zero, zero), "03");
+        assert_eq!(number(record, zero, TOKEN), "03");
+        assert_eq!(number(record, TOKEN, zero), "2A");
+    }
+    let refused = [IDLE, WAITING, STOPPED].map(|record| number(record, TOKEN, TOKEN));
+    assert_eq!(refused, ["06", "05", "04"]);
+}
+
+#[test]
+fn illegal_records() {
+    let kept = "FFFFFFFA000000000123456789ABCDEF04";
+    let zeros = "0000000000000000000000000000000000";
+    let change = |record: &str, range: std::ops::Range<usize>, from: &str| {
+        let mut record = record.to_string();
+        record.replace_range(range.start + 2..range.end + 2, &from[range]);
+        record
+    };
+    for range in [0..16, 16..32, 32..34] {
+        let waiting = change(WAITING, range.clone(), zeros);
+        let others = [IDLE, STOPPED, FRESH].map(|record| change(record, range.clone(), kept));
+        for record in [waiting].into_iter().chain(others) {
+            assert_eq!(one(&format!("0A{record}0000000000000017")), format!("1D{record}"));
+        }
+    }
 }
 
 #[test]
@@ -94,6 +124,9 @@ fn arrivals() {
         assert_eq!(text, format!("01000000000A200000000000000000C00000000000000000{IDLE}"));
         let text = one(&format!("09{WAITING}0000000000000000{alternate}{REPLY}"));
         assert_eq!(text, format!("0003{}{WAITING}", "00".repeat(22)));
+        let t1 = REPLY.replace(TOKEN, "FFFFFFFA00000000");
+        let text = one(&format!("09{WAITING}FFFFFFFBC0000000{alternate}{t1}"));
+        assert_eq!(text, format!("0009{}{WAITING}", "00".repeat(22)));
     }
     assert_eq!(one(&format!("09{WAITING}FFFFFFFBC000000002{REPLY}")), "40");
     assert_eq!(one(&format!("09{WAITING}FFFFFFFBC0000000")), "40");
@@ -112,7 +145,7 @@ fn kisses() {
 fn give_ups() {
     assert_eq!(one(&format!("0A{WAITING}0000000000000017")), format!("00{RAISED}"));
     assert_eq!(one(&format!("0A{WAITING}0000000000000016")), format!("14{WAITING}"));
-    let illegal = "0000000000000000000000000000000000000007";
+    let illegal = &FRESH.replace("06", "07");
     assert_eq!(one(&format!("0A{illegal}0000000000000016")), format!("1D{illegal}"));
 }
 
@@ -126,9 +159,9 @@ fn of_list(operation: &str, head: [usize; 3], records: &[&str], rest: &str) -> S
 #[test]
 fn asks_for_a_record_of_a_list() {
     let ask = |head, records: &[&str], n| {
-        of_list("0E", head, records, &format!("{n}04FFFFFFFA000000000000000000000007"))
+        of_list("0E", head, records, &format!("{n}04FFFFFFFA00000000{TOKEN}0000000000000007"))
     };
-    let request = format!("23{}FFFFFFFA00000000", "00".repeat(39));
+    let request = format!("23{}{TOKEN}", "00".repeat(39));
     let text = ask([2, 0, 1], &[STOPPED, FRESH], "30");
     assert_eq!(text, format!("0000{STOPPED}{WAITING}{request}"));
     assert_eq!(ask([2, 1, 0], &[STOPPED, FRESH], "00"), format!("0101{STOPPED}{FRESH}"));
@@ -138,7 +171,7 @@ fn asks_for_a_record_of_a_list() {
     assert_eq!(ask([1, 255, 0], &[FRESH], "02"), format!("23FF{FRESH}5A5B"));
     assert_eq!(ask([9, 0, 0], &[FRESH; 9], "00"), format!("2300{}", FRESH.repeat(9)));
     assert_eq!(ask([8, 7, 0], &[FRESH; 8], "00"), format!("0107{}", FRESH.repeat(8)));
-    let illegal = "0000000000000000000000000000000000000007";
+    let illegal = &FRESH.replace("06", "07");
     assert_eq!(ask([2, 0, 0], &[FRESH, illegal], "00"), format!("1D00{FRESH}{illegal}"));
 }
 
@@ -196,7 +229,7 @@ fn malformed_lists() {
     assert_eq!(give_up(2, &[FRESH, &wrong_phase], uptime), "40");
     assert_eq!(give_up(2, &[FRESH, &wrong_flag], uptime), "40");
     assert_eq!(give_up(9, &[&[FRESH; 8][..], &[&wrong_flag]].concat(), uptime), "40");
-    let ask = |n| one(&format!("0E000000{n}04FFFFFFFA000000000000000000000007"));
+    let ask = |n| one(&format!("0E000000{n}04FFFFFFFA00000000{TOKEN}0000000000000007"));
     assert_eq!((ask("50").len(), ask("51").as_str()), (4 + 160, "40"));
     let arrival = |length: usize| one(&format!("0F000000{}", "00".repeat(8 + length)));
     assert_eq!((arrival(80).len(), arrival(81).as_str()), (50, "40"));
@@ -299,12 +332,25 @@ fn malformed_by_their_operation_or_length() {
 }
 
 #[test]
+fn malformed_without_a_token() {
+    let time = "0000000000000017";
+    let ask = |record, token| one(&format!("08{record}3004{time}{token}{time}"));
+    let without = &FRESH[16..];
+    assert!(ask(FRESH, TOKEN).starts_with("0001"));
+    assert_eq!([ask(FRESH, ""), ask(without, TOKEN), ask(without, "")], ["40"; 3]);
+    assert_eq!(one(&format!("09{without}{time}00")), "40");
+    assert_eq!(one(&format!("0A{without}{time}")), "40");
+    for (operation, rest) in [("0E", format!("3004{time}{TOKEN}{time}")), ("10", time.into())] {
+        assert_eq!(of_list(operation, [2, 0, 1], &[without; 2], &rest), "40");
+        assert_eq!(of_list(operation, [2, 0, 1], &[FRESH, without], &rest), "40");
+    }
+}
+
+#[test]
 fn malformed_by_one_octet() {
-    let record = ["00", "0000000000000000", "00", "00", "0000000000000000", "06"];
     let ask = |phase, asked, n| {
-        let [_, transmit, version, _, uptime, exponent] = record;
-        let record = [phase, transmit, version, asked, uptime, exponent].concat();
-        one(&format!("08{record}{n}04FFFFFFFA000000000000000000000007"))
+        let record = format!("{phase}{}{asked}{}06", "00".repeat(17), "00".repeat(8));
+        one(&format!("08{record}{n}04FFFFFFFA00000000{TOKEN}0000000000000007"))
     };
     assert!(ask("00", "00", "30").starts_with("0001"));
     assert!(ask("00", "00", "50").starts_with("0001"));

@@ -107,6 +107,12 @@ fn replays_that_miss_a_kiss_row_are_found() {
     assert_eq!(missing_in_replay(2, without_kisses).len(), 15);
 }
 
+#[test]
+fn replays_that_miss_a_zero_token_are_found() {
+    let without = |answers: String| answers.replace("2A\n", "06\n");
+    assert_eq!(missing_in_replay(1, without), ["A1 42"]);
+}
+
 /// What counting one line and one answer says.
 fn problem(lines: impl BufRead, answers: impl BufRead) -> String {
     count::conformance::counter().count(lines, answers).unwrap_err().to_string()

@@ -3,7 +3,7 @@
 
 use reference::arrival::{Told, arrival};
 use reference::associations::Associations;
-use reference::client::{FRESH, ask, give_up};
+use reference::client::{FRESH, Token, ask, give_up};
 use reference::generate::faults::{Fault, add_fault};
 use reference::generate::packets::octets_of;
 use reference::generate::replies::good_reply;
@@ -56,14 +56,18 @@ fn settings(r: &mut Random) -> Settings {
     }
 }
 
+fn token(r: &mut Random) -> Token {
+    Token(r.number())
+}
+
 /// A call for a waiting record that is refused, of the record alone and of the list.
 fn refused_call(r: &mut Random, list: &Associations, number: usize) {
     let waiting = &list.records[number];
     match r.below(3) {
         0 => {
-            let (mut buffer, clock, uptime) = ([7; 60], r.number(), r.number());
-            assert!(ask(waiting, &mut buffer, 4, clock, uptime).is_err());
-            assert!(list.ask(number, &mut buffer, 4, clock, uptime).is_err());
+            let (mut buffer, clock, token, uptime) = ([7; 60], r.number(), token(r), r.number());
+            assert!(ask(waiting, &mut buffer, 4, clock, token, uptime).is_err());
+            assert!(list.ask(number, &mut buffer, 4, clock, token, uptime).is_err());
             assert_eq!(buffer, [7; 60]);
         }
         1 => {
@@ -72,12 +76,11 @@ fn refused_call(r: &mut Random, list: &Associations, number: usize) {
             assert!(list.give_up(number, uptime).is_err());
         }
         _ => {
-            let t1 = waiting.transmit;
-            let mut other = good_reply(r, t1, waiting.version);
+            let mut other = good_reply(r, waiting);
             if r.one_in(2) {
-                add_fault(r, Fault::Kiss, t1, &mut other);
+                add_fault(r, Fault::Kiss, waiting, &mut other);
             }
-            add_fault(r, Fault::By(OriginateMismatch), t1, &mut other);
+            add_fault(r, Fault::By(OriginateMismatch), waiting, &mut other);
             let packet = octets_of(&other.fields);
             let arrived = arrival(waiting, &packet, other.t4, r.one_in(2));
             assert_eq!(arrived, Err(OriginateMismatch));
@@ -90,7 +93,8 @@ fn keeps_the_bound(r: &mut Random, exchange: &Exchange) {
     let [t1, t2, t3, t4] = exchange.t;
     let mut request = [0xEE; 48];
     let version = 1 + r.octet_below(4);
-    let waiting = ask(&FRESH, &mut request, version, t1, r.below(1 << 40)).unwrap();
+    let token = if r.one_in(4) { Token(t1) } else { token(r) };
+    let waiting = ask(&FRESH, &mut request, version, t1, token, r.below(1 << 40)).unwrap();
     let mut answer = [0; 48];
     reply(&settings(r), t2, t3, &request, &mut answer).unwrap();
     let alone = Associations { records: vec![waiting], in_use: 0 };
@@ -116,12 +120,12 @@ fn any_call(r: &mut Random, list: &Associations, number: usize) -> Result<Associ
     let client = list.records[number];
     let uptime = client.uptime + r.below(1 << 15);
     match r.below(4) {
-        0 => list.ask(number, &mut [0; 48], 4, r.number(), uptime),
+        0 => list.ask(number, &mut [0; 48], 4, r.number(), token(r), uptime),
         1 => list.give_up(number, uptime),
         _ => {
-            let mut reply = good_reply(r, client.transmit, client.version);
+            let mut reply = good_reply(r, &client);
             if r.one_in(2) {
-                add_fault(r, Fault::Kiss, client.transmit, &mut reply);
+                add_fault(r, Fault::Kiss, &client, &mut reply);
             }
             let packet = octets_of(&reply.fields);
             list.arrival(number, &packet, reply.t4).map(|arrived| arrived.next)
@@ -147,7 +151,7 @@ fn keeps_the_bound_in_a_list(r: &mut Random, exchange: &Exchange) -> Option<()> 
     let before = any_list(r);
     let number = r.below(before.records.len() as u64) as usize;
     let mut request = [0xEE; 48];
-    let mut list = before.ask(number, &mut request, 4, t1, 1 << 40).ok()?;
+    let mut list = before.ask(number, &mut request, 4, t1, token(r), 1 << 40).ok()?;
     let waiting = list.records[number];
     let mut answer = [0; 48];
     reply(&settings(r), t2, t3, &request, &mut answer).unwrap();

@@ -2,7 +2,7 @@
 
 use reference::arrival::{Told, arrival};
 use reference::associations::Associations;
-use reference::client::{Client, FRESH, Phase};
+use reference::client::{Client, FRESH, Phase, Token};
 use reference::packet::{self, Fields};
 use reference::refusal::Refusal::{self, FirstBelowSecond};
 use reference::timestamp::{Measured, measure};
@@ -40,11 +40,14 @@ fn for_each(check: impl Fn(u64, u64, u64, Result<Measured, Refusal>)) {
     }
 }
 
-/// A reply to a request that was sent at T1.
-fn reply(t1: u64, t2: u64) -> [u8; 48] {
+/// The token of every request.
+const TOKEN: u64 = 77;
+
+/// A reply to a request.
+fn reply(t2: u64) -> [u8; 48] {
     let mut packet = [0; 48];
     let fields = Fields { version: 4, mode: 4, stratum: 1, ..Fields::default() };
-    let times = Fields { originate: t1, receive: t2, transmit: t2, ..fields };
+    let times = Fields { originate: TOKEN, receive: t2, transmit: t2, ..fields };
     packet::write(&times, &mut packet).unwrap();
     packet
 }
@@ -57,10 +60,10 @@ fn measured() {
 #[test]
 fn arriving_at_a_client_and_at_a_record_of_a_list() {
     for_each(|t1, t2, t4, wanted| {
-        let client =
-            Client { phase: Phase::Waiting, transmit: t1, version: 4, asked: true, ..FRESH };
+        let token = Token(TOKEN);
+        let client = Client { phase: Phase::Waiting, t1, token, version: 4, asked: true, ..FRESH };
         let list = Associations { records: vec![FRESH, client], in_use: 0 };
-        let packet = reply(t1, t2);
+        let packet = reply(t2);
         let told = wanted.map(Told::Accepted);
         assert_eq!(arrival(&client, &packet, t4, false).map(|arrived| arrived.told), told);
         assert_eq!(list.arrival(1, &packet, t4).map(|arrived| arrived.told), told);
@@ -70,8 +73,8 @@ fn arriving_at_a_client_and_at_a_record_of_a_list() {
 #[test]
 fn replayed() {
     for_each(|t1, t2, t4, wanted| {
-        let packet: String = reply(t1, t2).map(|octet| format!("{octet:02X}")).concat();
-        let frames = format!("A1{:016X}{t1:016X}\nA2{:016X}{t4:016X}{packet}\n", 0, 0);
+        let packet: String = reply(t2).map(|octet| format!("{octet:02X}")).concat();
+        let frames = format!("A1{:016X}{t1:016X}{TOKEN:016X}\nA2{:016X}{t4:016X}{packet}\n", 0, 0);
         let mut answers = Vec::new();
         replay::run(frames.as_bytes(), &mut answers).unwrap();
         let answer = match wanted {

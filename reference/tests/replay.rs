@@ -7,9 +7,9 @@ fn replay(input: &[u8]) -> String {
 }
 
 const CASE: &str = "\
-A10000000000000000FFFFFFFA00000000
+A10000000000000000FFFFFFFA00000000FFFFFFFA00000000
 A20000000000000001FFFFFFFBC0000000240100EC0000000000000000475053000000000400000000FFFFFFFA0000000000000004800000000000000580000000
-A1000000000000003FFFFFFFFC00000000
+A1000000000000003FFFFFFFFC00000000FFFFFFFC00000000
 A30000000000000040FFFFFFFC00000000
 ";
 const ANSWERS: &str = "\
@@ -27,6 +27,26 @@ fn whole_case() {
 }
 
 #[test]
+fn tokens() {
+    let (clock, token, zero) = ("FFFFFFFA00000000", "0123456789ABCDEF", "0000000000000000");
+    let reply = |originate| CASE.lines().nth(1).unwrap().replace("FFFFFFFA00000000", originate);
+    let frames = [
+        format!("A1{zero}{zero}{zero}"),
+        format!("A1{zero}{zero}{token}"),
+        format!("A1{zero}{clock}{zero}"),
+        format!("A1{zero}{clock}{token}"),
+        format!("A1{zero}{clock}{zero}"),
+        format!("A1{zero}{clock}{token}"),
+        reply(clock),
+        reply(token),
+    ];
+    let request = format!("0023{}{token}", "00".repeat(39));
+    let measured = ANSWERS.lines().nth(1).unwrap();
+    let answers = ["03", "03", "2A", &request, "2A", "05", "09", measured, ""];
+    assert_eq!(replay(frames.join("\n").as_bytes()), answers.join("\n"));
+}
+
+#[test]
 fn line_ends() {
     assert_eq!(replay(b""), "");
     assert_eq!(replay(b"\n"), "40\n");
@@ -40,12 +60,14 @@ fn line_ends() {
 #[test]
 fn malformed_lines() {
     let lines = [
-        "A1000000000000000000000000000000010",
-        "A1 0000000000000000000000000000001",
-        "A4000000000000000000000000000000FF",
-        "A1000000000000000000000000000000",
-        "A100000000000000000000000000000001FF",
+        "A10000000000000000000000000000000100000000000000010",
+        "A1 00000000000000000000000000000001000000000000001",
+        "A4000000000000000000000000000000010000000000000001",
+        "A10000000000000000000000000000000100000000000001",
+        "A100000000000000000000000000000001",
+        "A1000000000000000000000000000000010000000000000001FF",
         "A300000000000000000000000000000001FF",
+        "A3000000000000000000000000000000010000000000000001",
     ];
     for line in lines {
         assert_eq!(replay(line.as_bytes()), "40\n", "{line}");
@@ -75,7 +97,7 @@ fn long_lines_do_not_stop_it() {
 
 #[test]
 fn after_a_kiss_the_client_asks_again_later() {
-    let ask = |uptime: u64| format!("A1{uptime:016X}00000000000000AA\n");
+    let ask = |uptime: u64| format!("A1{uptime:016X}00000000000000BB00000000000000AA\n");
     let head = format!("A2{}", "00".repeat(16));
     let kiss = format!("24{}44454E59{}AA{}\n", "00".repeat(11), "00".repeat(15), "00".repeat(16));
     let frames = [ask(0), head + &kiss, ask(64), ask(127), ask(128)];

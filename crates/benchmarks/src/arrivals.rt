@@ -4,13 +4,14 @@ use client::Client;
 use reply_checks::ArrivalAnswer;
 use server_packet::Settings;
 use timestamp::Timestamp;
+use token::Token;
 
 const T1: u64 = 0x10_0000_0000;
 
 // A client that has asked at T1.
 pub(crate) fn waiting(request: &mut [u8]) -> Client {
     let client = Client::fresh();
-    let called = client.ask(request, 4, Timestamp::from_units(T1), 0);
+    let called = client.ask(request, 4, Timestamp::from_units(T1), Token(7), 0);
     called.client
 }
 

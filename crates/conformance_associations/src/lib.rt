@@ -15,13 +15,15 @@ use conformance_records::outcomes::arrived;
 use conformance_records::outcomes::called;
 use list::take_list;
 use list::with_list;
+use token::Token;
 
 pub fn ask(line: &[u8], at: usize) -> Answer {
     let taken = take_list(line, at);
     let n = take_count(line, taken.end, LONGEST_LENT);
     let version = take8(line, n.end);
     let clock = take_timestamp(line, version.end);
-    let uptime = take64(line, clock.end);
+    let token = take64(line, clock.end);
+    let uptime = take64(line, token.end);
     let list = taken.list;
     let lent = n.value;
     let mut buffer = filled();
@@ -34,6 +36,7 @@ pub fn ask(line: &[u8], at: usize) -> Answer {
         &mut buffer[0..lent],
         version.value,
         clock.value,
+        Token(token.value),
         uptime.value,
     );
     let result = next.result;

@@ -15,13 +15,15 @@ use conformance_records::outcomes::arrived;
 use conformance_records::outcomes::called;
 use conformance_records::take_record;
 use conformance_records::with_record;
+use token::Token;
 
 pub fn ask(line: &[u8], at: usize) -> Answer {
     let record = take_record(line, at);
     let n = take_count(line, record.end, LONGEST_LENT);
     let version = take8(line, n.end);
     let clock = take_timestamp(line, version.end);
-    let uptime = take64(line, clock.end);
+    let token = take64(line, clock.end);
+    let uptime = take64(line, token.end);
     let client = record.value;
     let lent = n.value;
     let mut buffer = filled();
@@ -29,6 +31,7 @@ pub fn ask(line: &[u8], at: usize) -> Answer {
         &mut buffer[0..lent],
         version.value,
         clock.value,
+        Token(token.value),
         uptime.value,
     );
     let answer = next.answer;

@@ -9,6 +9,7 @@ use conformance_parts::input::take_limited;
 use conformance_parts::input::take8;
 use conformance_parts::input::take64;
 use timestamp::Timestamp;
+use token::Token;
 
 pub struct TakenRecord {
     pub value: Client,
@@ -33,14 +34,16 @@ fn phase_octet(phase: Phase) -> u8 {
 
 pub fn take_record(line: &[u8], at: usize) -> TakenRecord {
     let phase = take_limited(line, at, 2);
-    let transmit = take64(line, phase.end);
-    let version = take8(line, transmit.end);
+    let t1 = take64(line, phase.end);
+    let token = take64(line, t1.end);
+    let version = take8(line, token.end);
     let asked = take_limited(line, version.end, 1);
     let uptime = take64(line, asked.end);
     let exponent = take8(line, uptime.end);
     let value = Client {
         phase: phase_of(phase.value),
-        transmit: Timestamp::from_units(transmit.value),
+        t1: Timestamp::from_units(t1.value),
+        token: Token(token.value),
         version: version.value,
         asked: asked.value == 1,
         uptime: uptime.value,
@@ -57,7 +60,8 @@ pub fn with_record(answer: Answer, client: Client) -> Answer {
     let phase = client.phase;
     answer
         .with8(phase_octet(phase))
-        .with64(client.transmit.0)
+        .with64(client.t1.0)
+        .with64(client.token.0)
         .with8(client.version)
         .with8(client.asked as u8)
         .with64(client.uptime)

@@ -12,6 +12,7 @@ use reply_checks::ArrivalAnswer;
 use server::ReplyAnswer;
 use server_packet::Settings;
 use timestamp::Timestamp;
+use token::Token;
 
 // What an ask or a give-up answers; the next record is handed on.
 fn show_call(next: Called) -> Client {
@@ -23,9 +24,22 @@ fn show_call(next: Called) -> Client {
     next.client
 }
 
-pub(crate) fn ask(client: Client, packet: &mut [u8], clock: u64, uptime: u64) -> Client {
+// The token is 1 more than the last one. A real caller takes it from a source of random numbers.
+pub(crate) fn ask(
+    client: Client,
+    packet: &mut [u8],
+    clock: u64,
+    token: u64,
+    uptime: u64,
+) -> Client {
     text(b"ask: ");
-    show_call(client.ask(packet, 4, Timestamp::from_units(clock), uptime))
+    show_call(client.ask(
+        packet,
+        4,
+        Timestamp::from_units(clock),
+        Token(token),
+        uptime,
+    ))
 }
 
 pub(crate) fn give_up(client: Client, uptime: u64) -> Client {

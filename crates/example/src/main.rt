@@ -10,7 +10,7 @@ const T4: u64 = 0xFFFF_FFFB_C000_0000;
 
 // An exchange; then its reply a second time.
 fn accepted(request: &mut [u8], reply: &mut [u8]) -> Client {
-    let client = calls::ask(Client::fresh(), request, T1, 0);
+    let client = calls::ask(Client::fresh(), request, T1, 1, 0);
     calls::reply(request, true, reply);
     let client = calls::arrival(client, reply, T4, false);
     calls::arrival(client, reply, T4, false)
@@ -18,8 +18,8 @@ fn accepted(request: &mut [u8], reply: &mut [u8]) -> Client {
 
 // Asks again, gets the old reply, and gives up: each too soon at first.
 fn no_reply(client: Client, request: &mut [u8], old: &[u8]) -> Client {
-    let client = calls::ask(client, request, T4, 63);
-    let client = calls::ask(client, request, T4, 64);
+    let client = calls::ask(client, request, T4, 2, 63);
+    let client = calls::ask(client, request, T4, 3, 64);
     let client = calls::arrival(client, old, T4, false);
     let client = calls::give_up(client, 79);
     calls::give_up(client, 80)
@@ -28,26 +28,27 @@ fn no_reply(client: Client, request: &mut [u8], old: &[u8]) -> Client {
 // The server is not synchronised: a kiss.
 fn kiss(
     client: Client,
+    token: u64,
     uptime: u64,
     request: &mut [u8],
     reply: &mut [u8],
     alternate: bool,
 ) -> Client {
-    let client = calls::ask(client, request, T1, uptime);
+    let client = calls::ask(client, request, T1, token, uptime);
     calls::reply(request, false, reply);
     calls::arrival(client, reply, T4, alternate)
 }
 
 // Without an alternate it has the client back off, from 2^7 s to 2^8 s.
 fn backed_off(client: Client, request: &mut [u8], reply: &mut [u8]) -> Client {
-    let client = kiss(client, 192, request, reply, false);
-    calls::ask(client, request, T1, 447)
+    let client = kiss(client, 4, 192, request, reply, false);
+    calls::ask(client, request, T1, 5, 447)
 }
 
 // With one it stops the client for good.
 fn stopped(client: Client, request: &mut [u8], reply: &mut [u8]) {
-    let client = kiss(client, 448, request, reply, true);
-    let client = calls::ask(client, request, T1, 100000);
+    let client = kiss(client, 6, 448, request, reply, true);
+    let client = calls::ask(client, request, T1, 7, 100000);
     calls::give_up(client, 100000);
 }
 

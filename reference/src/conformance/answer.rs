@@ -1,7 +1,7 @@
 //! The answers to conformance lines.
 
 use super::broadcast_call::BroadcastCall;
-use super::call::{Call, LONGEST, put_numbers};
+use super::call::{AskArguments, Call, LONGEST, put_numbers};
 use super::list_call::{ListCall, RecordCall};
 use super::records::{put_client, put_date, put_fields};
 use crate::arrival::{Arrived, Told, arrival};
@@ -30,8 +30,9 @@ pub fn put_answer(call: &Call, out: &mut Vec<u8>) {
         Call::Precision { tick } => {
             put_result(precision::precision(tick), out, |p, out| out.push(p as u8));
         }
-        Call::Ask { ref client, n, version, clock, uptime } => {
-            put_asked(client, n, out, |buffer| ask(client, buffer, version, clock, uptime));
+        Call::Ask { ref client, arguments } => {
+            let AskArguments { n, version, clock, token, uptime } = arguments;
+            put_asked(client, n, out, |buffer| ask(client, buffer, version, clock, token, uptime));
         }
         Call::Arrival { ref client, t4, alternate, packet } => {
             put_arrived(client, arrival(client, packet, t4, alternate), out);
@@ -152,8 +153,10 @@ fn put_arrived<T: Kept>(before: &T, result: Result<Arrived<T>, Refusal>, out: &m
 fn put_list_answer(call: &ListCall, out: &mut Vec<u8>) {
     let (list, number) = (&call.list, call.number);
     match call.call {
-        RecordCall::Ask { n, version, clock, uptime } => {
-            put_asked(list, n, out, |buffer| list.ask(number, buffer, version, clock, uptime));
+        RecordCall::Ask(AskArguments { n, version, clock, token, uptime }) => {
+            put_asked(list, n, out, |buffer| {
+                list.ask(number, buffer, version, clock, token, uptime)
+            });
         }
         RecordCall::Arrival { t4, packet } => {
             put_arrived(list, list.arrival(number, packet, t4), out);

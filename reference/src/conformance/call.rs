@@ -4,7 +4,7 @@ use super::broadcast_call::BroadcastCall;
 use super::list_call::{LARGEST_COUNT, ListCall, list_length, record_at};
 use super::records::*;
 use crate::calendar::Date;
-use crate::client::Client;
+use crate::client::{Client, Token};
 use crate::octets::{Reader, Short};
 use crate::packet::Fields;
 use crate::server::Settings;
@@ -18,9 +18,9 @@ pub const LONGEST_LINE: usize = record_at(LARGEST_COUNT as usize) + 8 + LONGEST 
 /// an arrival, of the buffer's length n, and of the server's settings.
 pub const PHASE_AT: usize = 1;
 pub const ASKED_AT: usize = PHASE_AT + ASKED_AFTER_PHASE;
-pub const ALTERNATE_AT: usize = 29;
+pub const ALTERNATE_AT: usize = PHASE_AT + RECORD + 8;
 pub const N_OF_WRITE_AT: usize = 1;
-pub const N_OF_ASK_AT: usize = 21;
+pub const N_OF_ASK_AT: usize = PHASE_AT + RECORD;
 pub const N_OF_REPLY_AT: usize = 32;
 pub const SYNCHRONISED_AT: usize = 1;
 
@@ -34,7 +34,7 @@ pub enum Call<'a> {
     DateOfTimestamp { timestamp: u64 },
     TimestampOfDate { date: Date },
     Precision { tick: u64 },
-    Ask { client: Client, n: u8, version: u8, clock: u64, uptime: u64 },
+    Ask { client: Client, arguments: AskArguments },
     Arrival { client: Client, t4: u64, alternate: bool, packet: &'a [u8] },
     GiveUp { client: Client, uptime: u64 },
     Reply { settings: Settings, t2: u64, t3: u64, n: u8, request: &'a [u8] },
@@ -45,6 +45,33 @@ pub enum Call<'a> {
     Fresh,
     Constants,
     Halve { first: i64, second: i64 },
+}
+
+/// What an ask is given beside the record.
+#[derive(Clone, Copy, PartialEq, Eq, Debug)]
+pub struct AskArguments {
+    pub n: u8,
+    pub version: u8,
+    pub clock: u64,
+    pub token: Token,
+    pub uptime: u64,
+}
+
+impl AskArguments {
+    pub fn read(octets: &mut Reader) -> Result<AskArguments, Malformed> {
+        Ok(AskArguments {
+            n: read_n(octets)?,
+            version: octets.u8()?,
+            clock: octets.u64()?,
+            token: Token(octets.u64()?),
+            uptime: octets.u64()?,
+        })
+    }
+
+    pub fn put(&self, line: &mut Vec<u8>) {
+        line.extend([self.n, self.version]);
+        put_numbers([self.clock, self.token.0, self.uptime], line);
+    }
 }
 
 /// Why a line's octets are not a call.
@@ -78,13 +105,13 @@ pub fn lengths(operation: u8, rest: &[u8]) -> Result<(usize, usize), Malformed> 
         0x05 => (8, 8),
         0x06 => (13, 13),
         0x07 => (8, 8),
-        0x08 => (38, 38),
-        0x09 => (29, 29 + longest),
-        0x0A => (28, 28),
+        0x08 => (54, 54),
+        0x09 => (37, 37 + longest),
+        0x0A => (36, 36),
         0x0B => (32, 32 + longest),
         0x0C => (17, 17),
         0x0D => (16, 16),
-        0x0E => after_list(18, 18)?,
+        0x0E => after_list(26, 26)?,
         0x0F => after_list(8, 8 + longest)?,
         0x10 => after_list(8, 8)?,
         0x11 => (26, 26),
@@ -104,16 +131,6 @@ pub fn read_n(octets: &mut Reader) -> Result<u8, Malformed> {
 
 fn read_measure<'a>(octets: &mut Reader<'a>) -> Result<Call<'a>, Malformed> {
     Ok(Call::Measure { t1: octets.u64()?, t2: octets.u64()?, t3: octets.u64()?, t4: octets.u64()? })
-}
-
-fn read_ask<'a>(octets: &mut Reader<'a>) -> Result<Call<'a>, Malformed> {
-    Ok(Call::Ask {
-        client: read_client(octets)?,
-        n: read_n(octets)?,
-        version: octets.u8()?,
-        clock: octets.u64()?,
-        uptime: octets.u64()?,
-    })
 }
 
 fn read_arrival<'a>(octets: &mut Reader<'a>) -> Result<Call<'a>, Malformed> {
@@ -144,7 +161,7 @@ fn read_call<'a>(operation: u8, octets: &mut Reader<'a>) -> Result<Call<'a>, Mal
         0x05 => Call::DateOfTimestamp { timestamp: octets.u64()? },
         0x06 => Call::TimestampOfDate { date: read_date(octets)? },
         0x07 => Call::Precision { tick: octets.u64()? },
-        0x08 => read_ask(octets)?,
+        0x08 => Call::Ask { client: read_client(octets)?, arguments: AskArguments::read(octets)? },
         0x09 => read_arrival(octets)?,
         0x0A => Call::GiveUp { client: read_client(octets)?, uptime: octets.u64()? },
         0x0B => read_reply(octets)?,
@@ -206,10 +223,9 @@ impl<'a> Call<'a> {
             Call::DateOfTimestamp { timestamp } => put_numbers([timestamp], line),
             Call::TimestampOfDate { ref date } => put_date(date, line),
             Call::Precision { tick } => put_numbers([tick], line),
-            Call::Ask { ref client, n, version, clock, uptime } => {
+            Call::Ask { ref client, arguments } => {
                 put_client(client, line);
-                line.extend([n, version]);
-                put_numbers([clock, uptime], line);
+                arguments.put(line);
             }
             Call::Arrival { ref client, t4, alternate, packet } => {
                 put_arrival(client, t4, alternate, packet, line);

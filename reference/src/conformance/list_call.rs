@@ -1,6 +1,6 @@
 //! Calls for a record of a list, as they stand in conformance lines.
 
-use super::call::{Malformed, put_numbers, read_n};
+use super::call::{AskArguments, Malformed, put_numbers};
 use super::records::{RECORD, put_client, read_client};
 use crate::associations::{Associations, MOST};
 use crate::octets::Reader;
@@ -24,10 +24,10 @@ pub struct ListCall<'a> {
     pub call: RecordCall<'a>,
 }
 
-/// What is called for the record. `n` is the length of the buffer that is lent to the call.
+/// What is called for the record.
 #[derive(Clone, Copy, PartialEq, Eq, Debug)]
 pub enum RecordCall<'a> {
-    Ask { n: u8, version: u8, clock: u64, uptime: u64 },
+    Ask(AskArguments),
     Arrival { t4: u64, packet: &'a [u8] },
     GiveUp { uptime: u64 },
 }
@@ -46,12 +46,7 @@ fn read_record_call<'a>(
     octets: &mut Reader<'a>,
 ) -> Result<RecordCall<'a>, Malformed> {
     Ok(match operation {
-        0x0E => RecordCall::Ask {
-            n: read_n(octets)?,
-            version: octets.u8()?,
-            clock: octets.u64()?,
-            uptime: octets.u64()?,
-        },
+        0x0E => RecordCall::Ask(AskArguments::read(octets)?),
         0x0F => RecordCall::Arrival { t4: octets.u64()?, packet: octets.rest() },
         0x10 => RecordCall::GiveUp { uptime: octets.u64()? },
         _ => return Err(Malformed::Operation),
@@ -69,7 +64,7 @@ impl<'a> ListCall<'a> {
 
     pub fn operation(&self) -> u8 {
         match self.call {
-            RecordCall::Ask { .. } => 0x0E,
+            RecordCall::Ask(_) => 0x0E,
             RecordCall::Arrival { .. } => 0x0F,
             RecordCall::GiveUp { .. } => 0x10,
         }
@@ -80,10 +75,7 @@ impl<'a> ListCall<'a> {
         line.extend([self.list.records.len() as u8, self.list.in_use as u8, self.number as u8]);
         self.list.records.iter().for_each(|record| put_client(record, line));
         match self.call {
-            RecordCall::Ask { n, version, clock, uptime } => {
-                line.extend([n, version]);
-                put_numbers([clock, uptime], line);
-            }
+            RecordCall::Ask(arguments) => arguments.put(line),
             RecordCall::Arrival { t4, packet } => {
                 put_numbers([t4], line);
                 line.extend(packet);

@@ -3,14 +3,15 @@
 
 use super::call::Malformed;
 use crate::calendar::Date;
-use crate::client::{Client, Phase};
+use crate::client::{Client, Phase, Token};
 use crate::octets::{Reader, Short};
 use crate::packet::Fields;
 use crate::server::Settings;
 
-/// Octets of a client record, and those from its phase to its flag.
-pub const RECORD: usize = 20;
-pub const ASKED_AFTER_PHASE: usize = 10;
+/// Octets of a client record, and those from its phase to its token and to its flag.
+pub const RECORD: usize = 28;
+pub const TOKEN_AFTER_PHASE: usize = 9;
+pub const ASKED_AFTER_PHASE: usize = 18;
 
 /// A flag, which is 00 or 01.
 pub fn read_flag(octets: &mut Reader) -> Result<bool, Malformed> {
@@ -33,7 +34,8 @@ fn read_phase(octets: &mut Reader) -> Result<Phase, Malformed> {
 pub fn read_client(octets: &mut Reader) -> Result<Client, Malformed> {
     Ok(Client {
         phase: read_phase(octets)?,
-        transmit: octets.u64()?,
+        t1: octets.u64()?,
+        token: Token(octets.u64()?),
         version: octets.u8()?,
         asked: read_flag(octets)?,
         uptime: octets.u64()?,
@@ -47,7 +49,8 @@ pub fn put_client(client: &Client, out: &mut Vec<u8>) {
         Phase::Waiting => 1,
         Phase::Stopped => 2,
     });
-    out.extend(client.transmit.to_be_bytes());
+    out.extend(client.t1.to_be_bytes());
+    out.extend(client.token.0.to_be_bytes());
     out.push(client.version);
     out.push(client.asked.into());
     out.extend(client.uptime.to_be_bytes());

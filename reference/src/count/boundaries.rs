@@ -83,9 +83,7 @@ impl Boundaries {
             Call::DateOfTimestamp { timestamp } => calendar::timestamp(m, timestamp, answer),
             Call::TimestampOfDate { ref date } => calendar::date(m, date, outcome),
             Call::Precision { tick } => plain::precision(m, tick, outcome),
-            Call::Ask { ref client, n, version, clock, uptime } => {
-                client::ask(m, client, outcome, (n, version, clock, uptime));
-            }
+            Call::Ask { ref client, ref arguments } => client::ask(m, client, arguments, outcome),
             Call::Arrival { ref client, t4, alternate, packet } => {
                 let next = client::handed_back(answer);
                 arrival::alternates(m, alternate, outcome);

@@ -36,11 +36,12 @@ const REFUSALS: [(u8, &[Refusal]); 21] = [
 const MEASURE_REFUSALS: [Refusal; 5] =
     [ArrivedBeforeSent, ArrivedTooLate, AnsweredBeforeReceived, DelayNegative, FirstBelowSecond];
 
-const ASK_REFUSALS: [Refusal; 7] = [
+const ASK_REFUSALS: [Refusal; 8] = [
     RecordNotLegal,
     BufferTooShort,
     VersionUnsupported,
     OwnClockZero,
+    TokenZero,
     ClientStopped,
     AlreadyWaiting,
     AskedTooSoon,
@@ -96,10 +97,10 @@ const BROADCAST_ARRIVAL_REFUSALS: [Refusal; 7] = [
     OwnClockZero,
 ];
 
-/// All malformed lines and their kinds; by themselves also the wrong lengths of the ledger's, the
-/// list's, broadcast and halve lines, the wrong flag of an alternate, what is wrong in a list's
-/// records and in a broadcast line, and a list of ten.
-const MALFORMED: [&str; 36] = [
+/// All malformed lines and their kinds; by themselves also the wrong lengths of the client's, the
+/// ledger's, the list's, broadcast and halve lines, the wrong flag of an alternate, what is wrong
+/// in a list's records and in a broadcast line, and a list of ten.
+const MALFORMED: [&str; 42] = [
     "",
     "-empty",
     "-odd",
@@ -109,6 +110,12 @@ const MALFORMED: [&str; 36] = [
     "-character",
     "-operation",
     "-length",
+    "-length-08-short",
+    "-length-08-long",
+    "-length-09-short",
+    "-length-09-long",
+    "-length-0A-short",
+    "-length-0A-long",
     "-length-0C-short",
     "-length-0C-long",
     "-length-0D-short",
@@ -215,12 +222,18 @@ fn kind_of(malformed: Malformed) -> &'static str {
     }
 }
 
-/// Which wrong length a line of the ledger, of a list, of broadcast or of halving has.
+/// Which wrong length a line of the client, the ledger, a list, broadcast or halving has.
 fn kind_of_length(line: &[u8]) -> Option<&'static str> {
     let (&operation, rest) = line.split_first()?;
     // A list without its count is too short.
     let long = lengths(operation, rest).is_ok_and(|(_, longest)| rest.len() > longest);
     match (operation, long) {
+        (0x08, false) => Some("-length-08-short"),
+        (0x08, true) => Some("-length-08-long"),
+        (0x09, false) => Some("-length-09-short"),
+        (0x09, true) => Some("-length-09-long"),
+        (0x0A, false) => Some("-length-0A-short"),
+        (0x0A, true) => Some("-length-0A-long"),
         (0x0C, false) => Some("-length-0C-short"),
         (0x0C, true) => Some("-length-0C-long"),
         (0x0D, false) => Some("-length-0D-short"),

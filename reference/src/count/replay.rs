@@ -4,10 +4,10 @@ use super::outcome::Outcome;
 use super::{Counter, Pair, Row};
 use crate::kiss::{self, CODES};
 use crate::refusal::Refusal::{self, *};
-use crate::replay::{ARRIVAL, ASK, GIVE_UP, KISS};
+use crate::replay::{ARRIVAL, ASK, BEFORE_PACKET, GIVE_UP, KISS};
 
 /// A replayed client is never stopped.
-const ASK_REFUSALS: [Refusal; 3] = [OwnClockZero, AlreadyWaiting, AskedTooSoon];
+const ASK_REFUSALS: [Refusal; 4] = [OwnClockZero, TokenZero, AlreadyWaiting, AskedTooSoon];
 
 const ARRIVAL_REFUSALS: [Refusal; 16] = [
     PacketLengthWrong,
@@ -31,6 +31,8 @@ const ARRIVAL_REFUSALS: [Refusal; 16] = [
 const GIVE_UP_REFUSALS: [Refusal; 2] = [NotWaiting, GaveUpTooSoon];
 
 const MALFORMED: Row = Row::Malformed { kind: "" };
+/// An ask that ends after its clock.
+const WITHOUT_TOKEN: Row = Row::Malformed { kind: "-without-token" };
 
 /// Each number that each call can give, and each kiss row.
 fn wanted() -> impl Iterator<Item = Row> {
@@ -50,7 +52,7 @@ fn wanted() -> impl Iterator<Item = Row> {
         .chain(refused(GIVE_UP, &GIVE_UP_REFUSALS))
         .chain(kisses)
         .chain(passed)
-        .chain([MALFORMED])
+        .chain([MALFORMED, WITHOUT_TOKEN])
 }
 
 fn outcome(operation: u8, answer: &[u8]) -> Option<Outcome> {
@@ -62,9 +64,16 @@ fn outcome(operation: u8, answer: &[u8]) -> Option<Outcome> {
     }
 }
 
+fn is_without_token(line: &[u8]) -> bool {
+    line.first() == Some(&ASK) && line.len() == BEFORE_PACKET
+}
+
 fn take(counter: &mut Counter, pair: &Pair) -> Option<()> {
     if pair.answer == [LineMalformed.number()] {
         counter.add(MALFORMED);
+        if is_without_token(pair.line.as_deref().unwrap_or_default()) {
+            counter.add(WITHOUT_TOKEN);
+        }
     } else {
         let operation = *pair.line.as_ref()?.first()?;
         let outcome = outcome(operation, &pair.answer)?;

@@ -6,9 +6,9 @@ use super::packets::{alter, make_length_wrong, octets_of, put_authenticator};
 use super::plain_calls::buffer_length;
 use super::records::record;
 use super::replies::good_reply;
-use super::timestamps::{timestamp, uptime};
-use crate::client::{Client, Phase};
-use crate::conformance::call::{Call, LONGEST};
+use super::timestamps::{nonzero_token, timestamp, uptime};
+use crate::client::{Client, Phase, Token};
+use crate::conformance::call::{AskArguments, Call, LONGEST};
 use crate::random::Random;
 use crate::refusal::Refusal::*;
 
@@ -37,18 +37,28 @@ fn uptime_of_ask(r: &mut Random, last: u64, exponent: u8) -> u64 {
     }
 }
 
-/// An ask's n, version, clock and uptime.
-pub fn asked(r: &mut Random, client: &Client) -> (u8, u8, u64, u64) {
+/// A token, at times zero or the T1 of the request that the client waits for.
+fn token(r: &mut Random, client: &Client, clock: u64) -> Token {
+    match r.below(16) {
+        0 => Token::ZERO,
+        1 if client.phase == Phase::Waiting => Token(client.t1),
+        _ => nonzero_token(r, clock),
+    }
+}
+
+pub fn asked(r: &mut Random, client: &Client) -> AskArguments {
     let n = if r.one_in(2) { 48 } else { buffer_length(r) };
     let version = version(r);
     let clock = if r.one_in(16) { 0 } else { timestamp(r) };
-    (n, version, clock, uptime_of_ask(r, client.uptime, client.exponent))
+    let token = token(r, client, clock);
+    let uptime = uptime_of_ask(r, client.uptime, client.exponent);
+    AskArguments { n, version, clock, token, uptime }
 }
 
 pub fn ask(r: &mut Random, line: &mut Vec<u8>) {
     let client = record(r, Phase::Idle);
-    let (n, version, clock, uptime) = asked(r, &client);
-    Call::Ask { client, n, version, clock, uptime }.put(line);
+    let arguments = asked(r, &client);
+    Call::Ask { client, arguments }.put(line);
 }
 
 /// Kisses, the originate test and the last two tests occur more often.
@@ -78,12 +88,12 @@ const FAULTS: [Fault; 21] = [
 
 /// An arrival's T4 and packet.
 pub fn arrived(r: &mut Random, client: &Client) -> (u64, Vec<u8>) {
-    let mut reply = good_reply(r, client.transmit, client.version);
+    let mut reply = good_reply(r, client);
     let mut length_wrong = false;
     for _ in 0..r.pick([0, 0, 1, 1, 1, 1, 1, 2, 2, 3]) {
         let fault = r.pick(FAULTS);
         length_wrong |= fault == Fault::By(PacketLengthWrong);
-        add_fault(r, fault, client.transmit, &mut reply);
+        add_fault(r, fault, client, &mut reply);
     }
     let mut packet = octets_of(&reply.fields);
     if r.one_in(5) {

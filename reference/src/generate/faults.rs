@@ -3,6 +3,7 @@
 use super::packets::kiss_code;
 use super::replies::{ROOT_SECOND, Reply};
 use super::timestamps::timestamp;
+use crate::client::Client;
 use crate::packet::Fields;
 use crate::random::Random;
 use crate::refusal::Refusal::{self, *};
@@ -47,19 +48,21 @@ fn make_kiss(r: &mut Random, fields: &mut Fields) {
     }
 }
 
-/// An originate timestamp that is not T1.
-fn other_originate(r: &mut Random, t1: u64, receive: u64) -> u64 {
-    let other = match r.below(8) {
-        0 => t1.wrapping_add(1),
-        1 => t1.wrapping_sub(1),
+/// An originate timestamp that is not the token.
+fn other_originate(r: &mut Random, client: &Client, receive: u64) -> u64 {
+    let token = client.token.0;
+    let other = match r.below(10) {
+        0 => token.wrapping_add(1),
+        1 => token.wrapping_sub(1),
         2 => 0,
         3 => u64::MAX,
         4 => receive,
         5 => timestamp(r),
-        6 => t1.swap_bytes(),
-        _ => t1 ^ (1 << r.below(64)),
+        6 => token.swap_bytes(),
+        7 | 8 => client.t1,
+        _ => token ^ (1 << r.below(64)),
     };
-    if other == t1 { !t1 } else { other }
+    if other == token { !token } else { other }
 }
 
 /// Units that a difference is negative by.
@@ -142,12 +145,12 @@ fn high_stratum(r: &mut Random) -> u8 {
 
 /// Changes a reply so that it has the fault, if no test before that refuses it. A packet's
 /// length is not changed here.
-pub fn add_fault(r: &mut Random, fault: Fault, t1: u64, reply: &mut Reply) {
+pub fn add_fault(r: &mut Random, fault: Fault, client: &Client, reply: &mut Reply) {
     let fields = &mut reply.fields;
     match fault {
         Fault::Kiss => make_kiss(r, fields),
         Fault::By(OriginateMismatch) => {
-            fields.originate = other_originate(r, t1, fields.receive);
+            fields.originate = other_originate(r, client, fields.receive);
         }
         Fault::By(ReplyModeWrong) => fields.mode = (5 + r.octet_below(7)) % 8,
         Fault::By(VersionMismatch) => {
@@ -157,7 +160,7 @@ pub fn add_fault(r: &mut Random, fault: Fault, t1: u64, reply: &mut Reply) {
         Fault::By(StratumTooHigh) => fields.stratum = high_stratum(r),
         Fault::By(RootDelayOutOfRange) => fields.root_delay = large_root(r) as i32,
         Fault::By(RootDispersionTooLarge) => fields.root_dispersion = large_root(r),
-        Fault::By(refusal) => add_time_fault(r, refusal, t1, reply),
+        Fault::By(refusal) => add_time_fault(r, refusal, client.t1, reply),
     }
 }
 
@@ -165,18 +168,19 @@ pub fn add_fault(r: &mut Random, fault: Fault, t1: u64, reply: &mut Reply) {
 mod tests {
     use super::*;
     use crate::arrival::{Arrived, Told, arrival};
-    use crate::client::{Client, FRESH, Phase};
+    use crate::client::{FRESH, Phase};
     use crate::generate::packets::octets_of;
     use crate::generate::replies::good_reply;
+    use crate::generate::timestamps::nonzero_token;
 
     /// The arrival of a reply that has a fault, if one is given.
     fn arrived(r: &mut Random, fault: Option<Fault>) -> (Fields, Result<Arrived, Refusal>) {
         // Any number: a changed clock is then not zero, which other tests refuse.
         let t1 = r.number();
-        let client =
-            Client { phase: Phase::Waiting, transmit: t1, version: 4, asked: true, ..FRESH };
-        let mut reply = good_reply(r, t1, 4);
-        fault.into_iter().for_each(|fault| add_fault(r, fault, t1, &mut reply));
+        let token = nonzero_token(r, t1);
+        let client = Client { phase: Phase::Waiting, t1, token, version: 4, asked: true, ..FRESH };
+        let mut reply = good_reply(r, &client);
+        fault.into_iter().for_each(|fault| add_fault(r, fault, &client, &mut reply));
         (reply.fields, arrival(&client, &octets_of(&reply.fields), reply.t4, r.one_in(2)))
     }
 

@@ -71,6 +71,6 @@ mod tests {
     #[test]
     fn there_are_enough() {
         let count = super::lines().len();
-        assert!((12_500..13_500).contains(&count), "{count}");
+        assert!((14_200..15_200).contains(&count), "{count}");
     }
 }

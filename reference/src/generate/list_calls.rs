@@ -3,7 +3,7 @@
 use super::client_calls::{arrived, asked, uptime_of_give_up};
 use super::records::{illegal_record, legal_record, record};
 use crate::associations::{Associations, MOST};
-use crate::client::{Client, Phase};
+use crate::client::{Client, Phase, Token};
 use crate::conformance::call::Call;
 use crate::conformance::list_call::{ListCall, RecordCall};
 use crate::random::Random;
@@ -74,10 +74,20 @@ fn put(r: &mut Random, client: Client, call: RecordCall, line: &mut Vec<u8>) {
     Call::OfList(ListCall { list, number, call }).put(line);
 }
 
+/// The T1 of the first record that waits, as a token.
+fn t1_of_waiting(list: &Associations) -> Option<Token> {
+    let waiting = list.records.iter().find(|record| record.phase == Phase::Waiting);
+    waiting.map(|record| Token(record.t1))
+}
+
 pub fn ask(r: &mut Random, line: &mut Vec<u8>) {
     let client = record(r, Phase::Idle);
-    let (n, version, clock, uptime) = asked(r, &client);
-    put(r, client, RecordCall::Ask { n, version, clock, uptime }, line);
+    let mut arguments = asked(r, &client);
+    let (list, number) = list_with(r, client);
+    if r.one_in(8) {
+        arguments.token = t1_of_waiting(&list).unwrap_or(arguments.token);
+    }
+    Call::OfList(ListCall { list, number, call: RecordCall::Ask(arguments) }).put(line);
 }
 
 pub fn arrival(r: &mut Random, line: &mut Vec<u8>) {

@@ -10,7 +10,7 @@ use super::server_calls::reply;
 use crate::conformance::broadcast_call::N_OF_BROADCAST_AT;
 use crate::conformance::call::*;
 use crate::conformance::list_call::{COUNT_AT, LARGEST_COUNT, record_at};
-use crate::conformance::records::ASKED_AFTER_PHASE;
+use crate::conformance::records::{ASKED_AFTER_PHASE, TOKEN_AFTER_PHASE};
 use crate::random::Random;
 
 /// An operation that is not listed.
@@ -73,6 +73,44 @@ fn cut_before_packet(r: &mut Random, line: &mut Vec<u8>) {
     let (shortest, _) = line_lengths(line);
     let keep = if r.one_in(2) { shortest - 1 } else { 1 + r.below(shortest as u64 - 1) as usize };
     line.truncate(keep);
+}
+
+/// Leaves the token out of each record of a line.
+pub fn leave_out_tokens(line: &mut Vec<u8>) {
+    let places: Vec<usize> = match line[..] {
+        [0x08..=0x0A, ..] => vec![PHASE_AT],
+        [0x0E..=0x10, count, ..] => (0..count.into()).map(record_at).collect(),
+        _ => Vec::new(),
+    };
+    for record in places.into_iter().rev() {
+        let token = record + TOKEN_AFTER_PHASE;
+        line.drain(token..token + 8);
+    }
+}
+
+/// Leaves an ask's own token out, which stands before the uptime.
+pub fn leave_out_token_of_ask(line: &mut Vec<u8>) {
+    let end = line.len() - 8;
+    line.drain(end - 8..end);
+}
+
+/// A give-up without the record's token, or an ask without its own and at times without those of
+/// the records.
+fn make_tokens_missing(r: &mut Random, line: &mut Vec<u8>) {
+    line.clear();
+    match r.below(3) {
+        0 => ask(r, line),
+        1 => list_calls::ask(r, line),
+        _ => {
+            give_up(r, line);
+            leave_out_tokens(line);
+            return;
+        }
+    }
+    leave_out_token_of_ask(line);
+    if r.one_in(2) {
+        leave_out_tokens(line);
+    }
 }
 
 /// Sets an octet of a line to `least` often, or to any value from it on.
@@ -185,7 +223,7 @@ fn make_buffer_long(r: &mut Random, line: &mut Vec<u8>) {
 
 /// Makes a call's octets malformed, or puts other ones in their place that are.
 pub fn make_malformed(r: &mut Random, line: &mut Vec<u8>) {
-    match r.below(9) {
+    match r.below(10) {
         0 => {
             let operation = unlisted(r);
             if let Some(first) = line.first_mut() {
@@ -197,6 +235,7 @@ pub fn make_malformed(r: &mut Random, line: &mut Vec<u8>) {
         3 => cut_before_packet(r, line),
         4 | 5 => make_flag_wrong(r, line),
         6 => make_count_large(r, line),
+        7 => make_tokens_missing(r, line),
         _ => make_buffer_long(r, line),
     }
 }

@@ -4,6 +4,7 @@ use super::faults::{Fault, add_fault};
 use super::packets::{identifier, make_length_wrong, octets_of, put_any, put_authenticator};
 use super::replies::good_reply;
 use super::timestamps::{around, timestamp};
+use crate::client::{Client, FRESH};
 use crate::conformance::call::{Call, LONGEST};
 use crate::packet::{Fields, LENGTH};
 use crate::random::Random;
@@ -21,7 +22,9 @@ pub fn difference(r: &mut Random, line: &mut Vec<u8>) {
 
 pub fn measure(r: &mut Random, line: &mut Vec<u8>) {
     let t1 = timestamp(r);
-    let mut reply = good_reply(r, t1, 4);
+    // Only T1 matters to what is taken of the reply.
+    let client = Client { t1, ..FRESH };
+    let mut reply = good_reply(r, &client);
     for _ in 0..r.pick([0, 0, 1, 1, 1, 2]) {
         let refusal = r.pick([
             ArrivedBeforeSent,
@@ -30,7 +33,7 @@ pub fn measure(r: &mut Random, line: &mut Vec<u8>) {
             DelayNegative,
             FirstBelowSecond,
         ]);
-        add_fault(r, Fault::By(refusal), t1, &mut reply);
+        add_fault(r, Fault::By(refusal), &client, &mut reply);
     }
     if r.one_in(16) {
         reply.t4 = timestamp(r);

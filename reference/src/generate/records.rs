@@ -1,7 +1,7 @@
 //! Client records, legal and illegal.
 
-use super::timestamps::{nonzero_timestamp, uptime};
-use crate::client::{Client, FRESH, Phase};
+use super::timestamps::{nonzero_timestamp, nonzero_token, uptime};
+use crate::client::{Client, FRESH, Phase, Token};
 use crate::random::Random;
 
 const PHASES: [Phase; 3] = [Phase::Idle, Phase::Waiting, Phase::Stopped];
@@ -13,7 +13,9 @@ pub fn legal_record(r: &mut Random, phase: Phase) -> Client {
         Phase::Idle if r.one_in(5) => FRESH,
         Phase::Idle => asked,
         Phase::Waiting => {
-            Client { phase, transmit: nonzero_timestamp(r), version: 1 + r.octet_below(4), ..asked }
+            let t1 = nonzero_timestamp(r);
+            let token = nonzero_token(r, t1);
+            Client { phase, t1, token, version: 1 + r.octet_below(4), ..asked }
         }
         Phase::Stopped => Client { phase, ..asked },
     }
@@ -41,25 +43,27 @@ fn never_asked(r: &mut Random, phase: Phase) -> Client {
 /// A record that is illegal in one of the ways there are.
 pub fn illegal_record(r: &mut Random) -> Client {
     let not_waiting = r.pick([Phase::Idle, Phase::Stopped]);
-    match r.below(10) {
+    match r.below(12) {
         0 | 1 => {
             let phase = r.pick(PHASES);
             let exponent = illegal_exponent(r);
             Client { exponent, ..legal_record(r, phase) }
         }
-        2 => Client { transmit: 0, ..legal_record(r, Phase::Waiting) },
-        3 => {
+        2 => Client { t1: 0, ..legal_record(r, Phase::Waiting) },
+        3 => Client { token: Token::ZERO, ..legal_record(r, Phase::Waiting) },
+        4 => {
             let version = r.pick([0, 5, 6, 7, 8, 128, 255]);
             Client { version, ..legal_record(r, Phase::Waiting) }
         }
-        4 => Client { transmit: nonzero_timestamp(r), ..legal_record(r, not_waiting) },
-        5 => {
+        5 => Client { t1: nonzero_timestamp(r), ..legal_record(r, not_waiting) },
+        6 => Client { token: Token(nonzero_timestamp(r)), ..legal_record(r, not_waiting) },
+        7 => {
             let version = r.pick([1, 2, 3, 4, 5, 255]);
             Client { version, ..legal_record(r, not_waiting) }
         }
-        6 => never_asked(r, Phase::Waiting),
-        7 => never_asked(r, Phase::Stopped),
-        8 => Client { exponent: 7 + r.octet_below(8), ..FRESH },
+        8 => never_asked(r, Phase::Waiting),
+        9 => never_asked(r, Phase::Stopped),
+        10 => Client { exponent: 7 + r.octet_below(8), ..FRESH },
         _ => Client { uptime: 1 + r.below(u64::MAX), ..FRESH },
     }
 }

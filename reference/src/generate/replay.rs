@@ -6,7 +6,7 @@ use super::replies::good_reply;
 use super::text::put_drawn;
 use super::timestamps::{nonzero_timestamp, today};
 use super::write_lines;
-use crate::client::{Client, FRESH, Phase};
+use crate::client::{Client, FRESH, Phase, Token};
 use crate::random::Random;
 use crate::refusal::Refusal::*;
 use crate::replay::{self, ARRIVAL, ASK, BEFORE_PACKET, GIVE_UP, LONGEST_PACKET, VERSION};
@@ -31,6 +31,8 @@ struct Gateway {
     uptime: u64,
     /// What its clock shows at uptime zero.
     base: u64,
+    /// T1 of its last request.
+    last_t1: u64,
     /// Frames to be refused before the request is settled.
     refused_frames: u64,
     /// Requests in a row that are still to get no reply.
@@ -43,6 +45,11 @@ fn put_frame(operation: u8, uptime: u64, clock: u64, line: &mut Vec<u8>) {
     line.push(operation);
     line.extend(uptime.to_be_bytes());
     line.extend(clock.to_be_bytes());
+}
+
+fn put_ask(uptime: u64, clock: u64, token: Token, line: &mut Vec<u8>) {
+    put_frame(ASK, uptime, clock, line);
+    line.extend(token.0.to_be_bytes());
 }
 
 fn put_give_up(r: &mut Random, uptime: u64, line: &mut Vec<u8>) {
@@ -82,15 +89,21 @@ impl Gateway {
             1 => nonzero_timestamp(r),
             _ => self.clock(r),
         };
-        put_frame(ASK, uptime, clock, line);
+        let token = match r.below(16) {
+            0 => 0,
+            1 | 2 => clock,
+            3 => self.last_t1,
+            _ => r.number(),
+        };
+        put_ask(uptime, clock, Token(token), line);
     }
 
     /// An arrival of a reply that has each fault of the list.
     fn arrival(&self, r: &mut Random, faults: &[Fault], line: &mut Vec<u8>) {
-        let t1 = self.client.transmit;
-        let mut reply = good_reply(r, t1, VERSION);
+        let client = Client { version: VERSION, ..self.client };
+        let mut reply = good_reply(r, &client);
         for &fault in faults {
-            add_fault(r, fault, t1, &mut reply);
+            add_fault(r, fault, &client, &mut reply);
         }
         let uptime = if r.one_in(8) { r.number() } else { self.uptime };
         put_frame(ARRIVAL, uptime, reply.t4, line);
@@ -151,7 +164,10 @@ impl Gateway {
                 let back = if r.one_in(2) { 1 } else { r.below(1 << 20) };
                 self.ask(r, last.saturating_sub(back), line);
             }
-            2 => put_frame(ASK, due, 0, line),
+            2 => {
+                let (clock, token) = r.pick([(0, 0), (0, 1), (1, 0)]);
+                put_ask(due, clock, Token(token), line);
+            }
             3 => self.refused_arrival(r, line),
             4 => {
                 let uptime = r.number();
@@ -212,7 +228,7 @@ impl Gateway {
     /// Octets that are no frame.
     fn no_frame(&self, r: &mut Random, line: &mut Vec<u8>) {
         line.clear();
-        match r.below(6) {
+        match r.below(7) {
             0 => self.frame_of(r, [0xA0, 0xA4, 0x00, 0xFF, 0x1A, 0xE0, 0xB1], line),
             1 => {
                 self.frame_of(r, [ASK, ARRIVAL, GIVE_UP], line);
@@ -221,10 +237,16 @@ impl Gateway {
             }
             2 => {
                 self.frame_of(r, [ASK, GIVE_UP], line);
-                let more = r.pick([1, 2, 48, 68]);
+                let more = r.pick([1, 2, 7, 9, 48, 68]);
                 put_any(r, more, line);
             }
-            3 | 4 => {
+            // An ask without a token, and a give-up with one.
+            3 if r.one_in(2) => self.frame_of(r, [ASK], line),
+            3 => {
+                self.frame_of(r, [GIVE_UP], line);
+                put_any(r, 8, line);
+            }
+            4 | 5 => {
                 // A packet that is too long, though a true reply.
                 self.arrival(r, &[], line);
                 let length = r.pick([69, 70, 80, 88, 300]);
@@ -257,6 +279,7 @@ impl Gateway {
         let before = self.client.phase;
         replay::answer(&mut self.client, line, &mut Vec::new());
         if before != Phase::Waiting && self.client.phase == Phase::Waiting {
+            self.last_t1 = self.client.t1;
             self.plan(r);
         }
     }
@@ -277,8 +300,9 @@ pub fn run(count: u64, seed: u64, open: bool, output: impl Write) -> io::Result<
     let mut r = Random::new(seed ^ 0x5EED_0F4E_B1A7);
     let base = base(&mut r, seed, count);
     let settlement = Settlement::Reply;
-    let (client, uptime, refused_frames, without_reply) = (FRESH, 0, 0, 0);
-    let mut gateway = Gateway { client, uptime, base, refused_frames, without_reply, settlement };
+    let (client, uptime, last_t1, refused_frames, without_reply) = (FRESH, 0, 0, 0, 0);
+    let mut gateway =
+        Gateway { client, uptime, base, last_t1, refused_frames, without_reply, settlement };
     // With an odd seed the last frames have the latest uptimes there are.
     let late = (count / 50).clamp(1, 400);
     let mut line = Vec::new();

@@ -2,6 +2,7 @@
 
 use super::packets::identifier;
 use super::timestamps::timestamp;
+use crate::client::Client;
 use crate::packet::Fields;
 use crate::random::Random;
 use crate::timestamp::{LIMIT, SECOND};
@@ -71,15 +72,15 @@ fn small_root(r: &mut Random) -> u32 {
     }
 }
 
-/// A reply that passes every test, except where a clock happens to be zero.
-pub fn good_reply(r: &mut Random, t1: u64, version: u8) -> Reply {
+/// A reply to the client that passes every test, except where a clock happens to be zero.
+pub fn good_reply(r: &mut Random, client: &Client) -> Reply {
     let elapsed = elapsed(r);
     let hold = hold(r, elapsed);
     let first = first_difference(r, (elapsed - hold) as i64);
-    let receive = t1.wrapping_add(first as u64);
+    let receive = client.t1.wrapping_add(first as u64);
     let fields = Fields {
         leap: r.octet_below(3),
-        version,
+        version: client.version,
         mode: 4,
         stratum: if r.one_in(3) { r.pick([1, 14, 15]) } else { 1 + r.octet_below(15) },
         poll: if r.one_in(2) { 0 } else { r.octet() },
@@ -88,9 +89,9 @@ pub fn good_reply(r: &mut Random, t1: u64, version: u8) -> Reply {
         root_dispersion: small_root(r),
         identifier: identifier(r),
         reference: timestamp(r),
-        originate: t1,
+        originate: client.token.0,
         receive,
         transmit: receive.wrapping_add(hold),
     };
-    Reply { fields, t4: t1.wrapping_add(elapsed) }
+    Reply { fields, t4: client.t1.wrapping_add(elapsed) }
 }

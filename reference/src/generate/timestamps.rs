@@ -1,5 +1,6 @@
-//! Timestamps and uptimes, the ends of their ranges often.
+//! Timestamps, tokens and uptimes, the ends of their ranges often.
 
+use crate::client::Token;
 use crate::random::Random;
 use crate::timestamp::{LIMIT, SECOND};
 
@@ -48,6 +49,17 @@ pub fn nonzero_timestamp(r: &mut Random) -> u64 {
 /// One less than the value, the value, or one more, modulo 2^64.
 pub fn around(r: &mut Random, value: u64) -> u64 {
     value.wrapping_add(r.below(3)).wrapping_sub(1)
+}
+
+/// A token that is not zero: mostly any number, at times the clock reading or one beside it.
+pub fn nonzero_token(r: &mut Random, clock: u64) -> Token {
+    let token = match r.below(8) {
+        0 | 1 => clock,
+        2 => around(r, clock),
+        3 => timestamp(r),
+        _ => r.number(),
+    };
+    Token(token.max(1))
 }
 
 pub fn uptime(r: &mut Random) -> u64 {

@@ -3,7 +3,7 @@
 use super::Marks;
 use super::client::records;
 use super::plain::exchange;
-use crate::client::{Client, Phase};
+use crate::client::{Client, Phase, Token};
 use crate::count::conformance::arrival_outcomes;
 use crate::count::outcome::Outcome;
 use crate::packet::{self, Fields, LENGTH};
@@ -31,16 +31,17 @@ pub fn arrival(
     m.see("7-before-8", outcome.by(PacketLengthWrong) && client.phase != Phase::Waiting);
     m.see("8-idle", outcome.by(NotWaiting) && client.phase == Phase::Idle);
     m.see("8-stopped", outcome.by(NotWaiting) && client.phase == Phase::Stopped);
+    tokens(m, client, fields.originate, outcome);
     broadcasts(m, client.phase, &fields, outcome);
     first_octets(m, &fields, outcome);
     server_timestamps(m, &fields, outcome);
     root_delays(m, fields.root_delay, outcome);
     root_dispersions(m, fields.root_dispersion, outcome);
     order_about_kiss(m, &fields, t4, outcome);
-    order_about_roots(m, &fields, client.transmit, t4, outcome);
+    order_about_roots(m, &fields, client.t1, t4, outcome);
     m.see_each("accepted-exponent-", 6..=14, |x| accepted && client.exponent == x);
     m.see("half-1-given", accepted && answer.get(10) == Some(&1));
-    exchange(m, [client.transmit, fields.receive, fields.transmit, t4], outcome);
+    exchange(m, [client.t1, fields.receive, fields.transmit, t4], outcome);
 }
 
 /// Every outcome, with an alternate and without one.
@@ -77,6 +78,15 @@ fn lengths(m: &mut Marks, length: usize, outcome: Outcome) {
     m.see("accepted-48", outcome == Outcome::Accepted && length == 48);
     m.see("accepted-68", outcome == Outcome::Accepted && length == 68);
     m.see("kiss-68", outcome.is_kiss() && length == 68);
+}
+
+/// Originate against token and T1, where these are equal and where they are not.
+fn tokens(m: &mut Marks, client: &Client, originate: u64, outcome: Outcome) {
+    let accepted = outcome == Outcome::Accepted;
+    let equal = client.token == Token(client.t1);
+    m.see("9-originate=T1", outcome.by(OriginateMismatch) && !equal && originate == client.t1);
+    m.see("accepted-token=T1", accepted && equal);
+    m.see("accepted-token-not-T1", accepted && !equal);
 }
 
 /// Packets as the writer of a broadcast makes them, synchronised and not.

@@ -20,9 +20,7 @@ pub fn list_call(m: &mut Marks, list_call: &ListCall, answer: &[u8], outcome: Ou
     illegal_records(m, list, *number, outcome);
     order(m, list, has_fault(client, call), outcome);
     match *call {
-        RecordCall::Ask { n, version, clock, uptime } => {
-            client::ask(m, client, outcome, (n, version, clock, uptime));
-        }
+        RecordCall::Ask(ref arguments) => client::ask(m, client, arguments, outcome),
         RecordCall::Arrival { t4, packet } => {
             let alternate = list.alternate(*number).is_some();
             let kiss = outcome.is_kiss().then_some(alternate);
@@ -42,7 +40,7 @@ fn handed_back(call: &ListCall, answer: &[u8]) -> Option<Associations> {
     let at = match call.call {
         // After kind, number, offset, half, delay, code and row.
         RecordCall::Arrival { .. } => 2 + 8 + 1 + 8 + 4 + 1,
-        RecordCall::Ask { .. } | RecordCall::GiveUp { .. } => 1,
+        RecordCall::Ask(_) | RecordCall::GiveUp { .. } => 1,
     };
     let mut octets = Reader::new(answer.get(at..)?);
     let in_use = octets.u8().ok()?.into();
@@ -101,7 +99,7 @@ fn illegal_records(m: &mut Marks, list: &Associations, number: usize, outcome: O
 /// whatever refuses a give-up.
 fn has_fault(client: &Client, call: &RecordCall) -> bool {
     match *call {
-        RecordCall::Ask { n, .. } => n < 48,
+        RecordCall::Ask(arguments) => arguments.n < 48,
         RecordCall::Arrival { packet, .. } => packet.len() == 47,
         RecordCall::GiveUp { uptime } => crate::client::give_up(client, uptime).is_err(),
     }

@@ -3,24 +3,32 @@
 
 use super::{Lines, T, pairs};
 use crate::associations::Associations;
-use crate::client::{Client, FRESH, Phase};
-use crate::conformance::call::Call;
+use crate::client::{Client, FRESH, Phase, Token};
+use crate::conformance::call::{AskArguments, Call};
 use crate::conformance::list_call::RecordCall;
 
 pub const IDLE: Client = Client { asked: true, uptime: 1000, ..FRESH };
 pub const STOPPED: Client = Client { phase: Phase::Stopped, ..IDLE };
-const WAITING: Client = Client { phase: Phase::Waiting, transmit: T, version: 4, ..IDLE };
+const WAITING: Client = Client { phase: Phase::Waiting, t1: T, token: TOKEN, version: 4, ..IDLE };
+/// The token of most requests here, which is no T1.
+pub const TOKEN: Token = Token(0x0123_4567_89AB_CDEF);
+/// An ask that an idle client takes.
+pub const ASK: AskArguments =
+    AskArguments { n: 48, version: 4, clock: T, token: TOKEN, uptime: 5000 };
 
 /// Every way a record can be illegal, alone.
-pub const ILLEGAL: [Client; 13] = [
+pub const ILLEGAL: [Client; 16] = [
     Client { exponent: 5, ..IDLE },
     Client { exponent: 15, ..IDLE },
-    Client { transmit: 0, ..WAITING },
+    Client { t1: 0, ..WAITING },
+    Client { token: Token::ZERO, ..WAITING },
     Client { version: 0, ..WAITING },
     Client { version: 5, ..WAITING },
-    Client { transmit: T, ..IDLE },
+    Client { t1: T, ..IDLE },
+    Client { token: TOKEN, ..IDLE },
     Client { version: 4, ..IDLE },
-    Client { transmit: T, ..STOPPED },
+    Client { t1: T, ..STOPPED },
+    Client { token: TOKEN, ..STOPPED },
     Client { version: 4, ..STOPPED },
     Client { asked: false, uptime: 0, ..WAITING },
     Client { asked: false, uptime: 0, ..STOPPED },
@@ -30,7 +38,7 @@ pub const ILLEGAL: [Client; 13] = [
 
 /// A waiting client that sent at the clock.
 pub fn waiting(clock: u64) -> Client {
-    Client { transmit: clock, uptime: 0, ..WAITING }
+    Client { t1: clock, uptime: 0, ..WAITING }
 }
 
 /// A call for a record that is in use, without an alternate and with one.
@@ -39,10 +47,9 @@ fn put_in_lists(lines: &mut Lines, client: &Client, call: RecordCall) {
     lines.list_call(Associations { records: vec![*client, IDLE], in_use: 0 }, 0, call);
 }
 
-/// An ask with a buffer's length, a version, a clock and an uptime.
-pub fn ask(lines: &mut Lines, client: &Client, (n, version, clock, uptime): (u8, u8, u64, u64)) {
-    lines.call(Call::Ask { client: *client, n, version, clock, uptime });
-    put_in_lists(lines, client, RecordCall::Ask { n, version, clock, uptime });
+pub fn ask(lines: &mut Lines, client: &Client, arguments: AskArguments) {
+    lines.call(Call::Ask { client: *client, arguments });
+    put_in_lists(lines, client, RecordCall::Ask(arguments));
 }
 
 pub fn arrival(lines: &mut Lines, client: &Client, t4: u64, packet: &[u8]) {
@@ -62,8 +69,8 @@ fn put_uptimes(lines: &mut Lines) {
         let due = 1000 + (1 << exponent);
         let idle = Client { exponent, ..IDLE };
         let waiting = Client { exponent, ..WAITING };
-        let asks = [999, due - 1, due, due + 1].map(|uptime| (48, 4, T, uptime));
-        asks.into_iter().for_each(|asked| ask(lines, &idle, asked));
+        let asks = [999, due - 1, due, due + 1].map(|uptime| AskArguments { uptime, ..ASK });
+        asks.into_iter().for_each(|arguments| ask(lines, &idle, arguments));
         [999, 1015, 1016, 1017].into_iter().for_each(|uptime| give_up(lines, &waiting, uptime));
     }
 }
@@ -71,7 +78,7 @@ fn put_uptimes(lines: &mut Lines) {
 /// Uptimes near 2^64, past which nothing becomes due.
 fn put_late_uptimes(lines: &mut Lines) {
     for (uptime, now) in pairs(&[u64::MAX - 15, u64::MAX - 16], &[u64::MAX, 0, 31]) {
-        ask(lines, &Client { uptime, ..IDLE }, (48, 4, T, now));
+        ask(lines, &Client { uptime, ..IDLE }, AskArguments { uptime: now, ..ASK });
         give_up(lines, &Client { uptime, ..WAITING }, now);
     }
 }
@@ -80,10 +87,12 @@ fn put_late_uptimes(lines: &mut Lines) {
 fn put_asks(lines: &mut Lines) {
     let clients = [FRESH, IDLE, WAITING, STOPPED];
     let buffers_and_versions: Vec<(u8, u8)> = pairs(&[47, 48], &[0, 1, 2, 3, 4, 5, 255]).collect();
-    let clocks_and_uptimes: Vec<(u64, u64)> = pairs(&[0, 1, u64::MAX], &[0, 1064]).collect();
-    let given: Vec<_> = pairs(&buffers_and_versions, &clocks_and_uptimes).collect();
-    for (client, ((n, version), (clock, uptime))) in pairs(&clients, &given) {
-        ask(lines, &client, (n, version, clock, uptime));
+    // T is the T1 of the client that waits.
+    let clocks_and_tokens = [(0, 0), (0, 1), (1, 0), (1, 1), (1, u64::MAX), (u64::MAX, 1), (1, T)];
+    let times: Vec<_> = pairs(&clocks_and_tokens, &[0, 1064]).collect();
+    let given: Vec<_> = pairs(&buffers_and_versions, &times).collect();
+    for (client, ((n, version), ((clock, token), uptime))) in pairs(&clients, &given) {
+        ask(lines, &client, AskArguments { n, version, clock, token: Token(token), uptime });
     }
 }
 
@@ -96,7 +105,7 @@ fn put_give_ups(lines: &mut Lines) {
 /// Illegal records, also with a call that is refused for another reason.
 fn put_illegal_records(lines: &mut Lines) {
     for (client, n) in pairs(&ILLEGAL, &[47, 48]) {
-        ask(lines, &client, (n, 4, T, 5000));
+        ask(lines, &client, AskArguments { n, ..ASK });
         arrival(lines, &client, T, &vec![0; n.into()]);
         give_up(lines, &client, 1000 + u64::from(n));
     }

@@ -1,23 +1,23 @@
 //! Fixed lines of packets: read, written, arriving at the client and at the server.
 
-use super::clients::{self, IDLE, STOPPED, ask, waiting};
+use super::clients::{self, ASK, IDLE, STOPPED, TOKEN, ask, waiting};
 use super::{Lines, T, pairs};
-use crate::client::{Client, FRESH};
-use crate::conformance::call::{Call, LONGEST};
+use crate::client::{Client, FRESH, Token};
+use crate::conformance::call::{AskArguments, Call, LONGEST};
 use crate::generate::packets::octets_of;
 use crate::kiss::CODES;
 use crate::packet::Fields;
 use crate::server::Settings;
 
 /// A plain reply.
-pub fn reply(t1: u64, t2: u64, t3: u64) -> Fields {
+pub fn reply(t2: u64, t3: u64) -> Fields {
     Fields {
         version: 4,
         mode: 4,
         stratum: 1,
         precision: -20,
         identifier: *b"GPS\0",
-        originate: t1,
+        originate: TOKEN.0,
         receive: t2,
         transmit: t3,
         ..Fields::default()
@@ -51,11 +51,11 @@ fn server_reply(lines: &mut Lines, n: u8, length: u8) {
 
 /// Every buffer length and every packet length.
 fn put_lengths(lines: &mut Lines) {
-    let good = reply(T, T, T);
+    let good = reply(T, T);
     for n in 0..=LONGEST {
         lines.call(Call::ReadFields { packet: &packet(&good, n, 0xCD) });
         lines.call(Call::WriteFields { n, fields: good });
-        ask(lines, &FRESH, (n, 4, T, 7));
+        ask(lines, &FRESH, AskArguments { n, uptime: 7, ..ASK });
         arrival(lines, &waiting(T), T, &good, n);
         server_reply(lines, n, 48);
         server_reply(lines, LONGEST, n);
@@ -64,14 +64,14 @@ fn put_lengths(lines: &mut Lines) {
 
 fn put_kisses(lines: &mut Lines) {
     for identifier in [*b"XXXX", *b"deny"].into_iter().chain(CODES) {
-        let kiss = Fields { stratum: 0, leap: 3, identifier, ..reply(T, 0, 0) };
+        let kiss = Fields { stratum: 0, leap: 3, identifier, ..reply(0, 0) };
         arrival(lines, &waiting(T), T, &kiss, 48);
     }
 }
 
 /// A kiss at each exponent.
 fn put_exponents(lines: &mut Lines) {
-    let kiss = Fields { stratum: 0, identifier: *b"RATE", ..reply(T, T, T) };
+    let kiss = Fields { stratum: 0, identifier: *b"RATE", ..reply(T, T) };
     for exponent in 6..=14 {
         arrival(lines, &Client { uptime: 1000, exponent, ..waiting(T) }, T, &kiss, 48);
     }
@@ -79,10 +79,11 @@ fn put_exponents(lines: &mut Lines) {
 
 /// Each test of a packet's own fields and of T4, alone and in pairs, of a reply and of a kiss.
 fn put_faults(lines: &mut Lines) {
-    let good = reply(T, T, T);
+    let good = reply(T, T);
     let fields = [
         good,
-        Fields { originate: T + 1, ..good },
+        Fields { originate: TOKEN.0 + 1, ..good },
+        Fields { originate: T, ..good },
         Fields { originate: 0, ..good },
         Fields { mode: 3, ..good },
         Fields { version: 3, ..good },
@@ -99,16 +100,26 @@ fn put_faults(lines: &mut Lines) {
     }
 }
 
+/// The token, T1 and others as originate, of a reply and of a kiss; one of the tokens is T1.
+fn put_tokens(lines: &mut Lines) {
+    for (token, originate) in pairs(&[1, T, T + 1, u64::MAX], &[0, 1, T, T + 1, u64::MAX]) {
+        let client = Client { token: Token(token), ..waiting(T) };
+        let fields = Fields { originate, ..reply(T, T) };
+        arrival(lines, &client, T, &fields, 48);
+        arrival(lines, &client, T, &Fields { stratum: 0, ..fields }, 68);
+    }
+}
+
 /// Packets for a client that does not wait.
 fn put_unwanted(lines: &mut Lines) {
     for (client, length) in pairs(&[FRESH, IDLE, STOPPED], &[47, 48]) {
-        arrival(lines, &client, T, &reply(T, T, T), length);
+        arrival(lines, &client, T, &reply(T, T), length);
     }
 }
 
 /// Root delay and root dispersion on both sides of their limits.
 fn put_roots(lines: &mut Lines) {
-    let good = reply(T, T, T);
+    let good = reply(T, T);
     let delays = [-1, 0, 1, 65535, 65536, i32::MIN, i32::MAX]
         .map(|root_delay| Fields { root_delay, ..good });
     let dispersions = [0, 1, 65535, 65536, (1 << 31) - 1, 1 << 31, u32::MAX]
@@ -121,8 +132,8 @@ fn put_roots(lines: &mut Lines) {
 /// A root field out of range with another fault besides, and a kiss all the same.
 fn put_roots_with_other_faults(lines: &mut Lines) {
     let half_circle = T + (1 << 63);
-    let bad_delay = Fields { root_delay: -1, ..reply(T, T, T) };
-    let bad_dispersion = Fields { root_dispersion: u32::MAX, ..reply(T, T, T) };
+    let bad_delay = Fields { root_delay: -1, ..reply(T, T) };
+    let bad_dispersion = Fields { root_dispersion: u32::MAX, ..reply(T, T) };
     let mut put = |t4, fields| arrival(lines, &waiting(T), t4, &fields, 48);
     for fields in [bad_delay, bad_dispersion] {
         put(T, Fields { stratum: 0, identifier: *b"RATE", ..fields });
@@ -140,6 +151,7 @@ pub fn put_lines(lines: &mut Lines) {
     put_kisses(lines);
     put_exponents(lines);
     put_faults(lines);
+    put_tokens(lines);
     put_unwanted(lines);
     lines.calls([Call::Fresh, Call::Constants]);
     put_roots(lines);

@@ -1,10 +1,11 @@
 //! Fixed lines of calls for a record of a list.
 
-use super::clients::{self, ILLEGAL, STOPPED};
+use super::clients::{self, ASK, ILLEGAL, STOPPED, TOKEN};
 use super::exchanges::reply;
 use super::{Lines, T, pairs};
 use crate::associations::{Associations, MOST};
-use crate::client::Client;
+use crate::client::{Client, Token};
+use crate::conformance::call::AskArguments;
 use crate::conformance::list_call::RecordCall;
 use crate::generate::list_calls::put_at;
 use crate::generate::packets::octets_of;
@@ -15,15 +16,15 @@ fn idle(number: usize) -> Client {
     Client { uptime: 1000 + number as u64, ..clients::IDLE }
 }
 
-/// The waiting record of a number; each sent at another clock.
+/// The waiting record of a number; each sent at another clock and with another token.
 fn waiting(number: usize) -> Client {
     let n = number as u64;
-    Client { uptime: 1000 + n, ..clients::waiting(T + n) }
+    Client { uptime: 1000 + n, token: Token(TOKEN.0 + n), ..clients::waiting(T + n) }
 }
 
 fn reply_to(number: usize) -> Fields {
-    let clock = T + number as u64;
-    reply(clock, clock, clock)
+    let n = number as u64;
+    Fields { originate: TOKEN.0 + n, ..reply(T + n, T + n) }
 }
 
 fn kiss_of(number: usize) -> Vec<u8> {
@@ -53,7 +54,7 @@ fn put_calls(lines: &mut Lines, shape: Shape, fault: bool, change: impl Fn(&mut 
     let [mut good, mut kiss] = [octets_of(&reply_to(number)), kiss_of(number)];
     good.truncate(n.into());
     kiss.truncate(n.into());
-    put(idle, RecordCall::Ask { n, version: 4, clock: T, uptime });
+    put(idle, RecordCall::Ask(AskArguments { n, uptime, ..ASK }));
     put(waiting, RecordCall::Arrival { t4, packet: &good });
     put(waiting, RecordCall::Arrival { t4, packet: &kiss });
     put(waiting, RecordCall::GiveUp { uptime });

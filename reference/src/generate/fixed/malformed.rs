@@ -1,5 +1,6 @@
 //! Fixed malformed lines.
 
+use super::clients::ASK;
 use super::{Lines, pairs};
 use crate::associations::Associations;
 use crate::client::FRESH;
@@ -7,6 +8,7 @@ use crate::conformance::broadcast_call::{BroadcastCall, N_OF_BROADCAST_AT};
 use crate::conformance::call::*;
 use crate::conformance::list_call::{COUNT_AT, LARGEST_COUNT, ListCall, RecordCall, record_at};
 use crate::conformance::records::{ASKED_AFTER_PHASE, RECORD};
+use crate::generate::malformed::{leave_out_token_of_ask, leave_out_tokens};
 use crate::server::Settings;
 
 /// Texts that are no line of digits, or no operation.
@@ -19,6 +21,14 @@ fn put_lengths(lines: &mut Lines, operation: u8, right: usize) {
         let mut line = vec![operation];
         line.resize(1 + length, 0);
         lines.octets(&line);
+    }
+}
+
+/// Wrong lengths of a line that ends with a packet, given the octets before that.
+fn put_lengths_with_packet(lines: &mut Lines, operation: u8, before: usize) {
+    let longest = before + usize::from(LONGEST);
+    for length in [0, 1, before - 1, longest + 1, 2 * longest] {
+        lines.octets(&resized(&[operation], 1 + length));
     }
 }
 
@@ -39,7 +49,7 @@ fn with_octet(call: &Call, at: usize, value: u8) -> Vec<u8> {
 
 /// An arrival has the longest packet here, so that each of the three is as long as can be.
 const LIST_CALLS: [RecordCall; 3] = [
-    RecordCall::Ask { n: 48, version: 4, clock: 1, uptime: 0 },
+    RecordCall::Ask(ASK),
     RecordCall::Arrival { t4: 1, packet: &[0; LONGEST as usize] },
     RecordCall::GiveUp { uptime: 0 },
 ];
@@ -61,10 +71,42 @@ fn put_list_lengths(lines: &mut Lines) {
     for (call, count) in pairs(&LIST_CALLS, &[0, 1, 2, 3, 4, 5, 6, 7, 8, 9]) {
         let line = line_of(&list_call(call, count));
         let end = record_at(count.into());
-        let shortest = if matches!(call, RecordCall::Ask { .. }) { end + 18 } else { end + 8 };
+        let shortest = if matches!(call, RecordCall::Ask(_)) { end + 26 } else { end + 8 };
         let longer = [line.len() + 1, line.len() + RECORD];
         let shorter = [shortest - 1, shortest.saturating_sub(RECORD).max(1), end, 4, 3, 2, 1];
         longer.into_iter().chain(shorter).for_each(|length| lines.octets(&resized(&line, length)));
+    }
+}
+
+/// Every call with a record, of a client and for a record of a list. An arrival has no packet here.
+fn calls_with_records() -> impl Iterator<Item = Call<'static>> {
+    const CALLS: [RecordCall; 3] = [
+        RecordCall::Ask(ASK),
+        RecordCall::Arrival { t4: 1, packet: &[] },
+        RecordCall::GiveUp { uptime: 0 },
+    ];
+    let alone = [
+        Call::Ask { client: FRESH, arguments: ASK },
+        Call::Arrival { client: FRESH, t4: 1, alternate: false, packet: &[] },
+        Call::GiveUp { client: FRESH, uptime: 0 },
+    ];
+    let of_lists = pairs(&CALLS, &[1, 2, 3, 4, 5, 6, 7, 8, 9]);
+    alone.into_iter().chain(of_lists.map(|(call, count)| list_call(call, count)))
+}
+
+/// Records without a token, an ask without its own, and both.
+fn put_without_tokens(lines: &mut Lines) {
+    for call in calls_with_records() {
+        let mut line = line_of(&call);
+        leave_out_tokens(&mut line);
+        lines.octets(&line);
+        if matches!(call.operation(), 0x08 | 0x0E) {
+            leave_out_token_of_ask(&mut line);
+            lines.octets(&line);
+            let mut line = line_of(&call);
+            leave_out_token_of_ask(&mut line);
+            lines.octets(&line);
+        }
     }
 }
 
@@ -101,10 +143,7 @@ fn put_lists(lines: &mut Lines) {
 /// Broadcast lines with a wrong length, a wrong flag, or a buffer that is too long.
 fn put_broadcasts(lines: &mut Lines) {
     put_lengths(lines, 0x11, 26);
-    let longest = 8 + usize::from(LONGEST);
-    for length in [0, 1, 7, longest + 1, 2 * longest] {
-        lines.octets(&resized(&[0x12], 1 + length));
-    }
+    put_lengths_with_packet(lines, 0x12, 8);
     let settings =
         Settings { synchronised: true, leap: 0, precision: 0, identifier: [0; 4], reference: 0 };
     let write = BroadcastCall::Write { settings, version: 4, poll: 6, t3: 1, n: 48 };
@@ -117,13 +156,17 @@ fn put_broadcasts(lines: &mut Lines) {
 }
 
 pub fn put_lines(lines: &mut Lines) {
+    put_lengths(lines, 0x08, 54);
+    put_lengths_with_packet(lines, 0x09, 37);
+    put_lengths(lines, 0x0A, 36);
     put_lengths(lines, 0x0C, 17);
     put_lengths(lines, 0x0D, 16);
     put_lengths(lines, 0xF2, 16);
+    put_without_tokens(lines);
     put_lists(lines);
     put_broadcasts(lines);
     let clock = u64::from_be_bytes([1; 8]);
-    let ask = Call::Ask { client: FRESH, n: 48, version: 4, clock, uptime: clock };
+    let ask = Call::Ask { client: FRESH, arguments: ASK };
     let arrival = Call::Arrival { client: FRESH, t4: clock, alternate: false, packet: &[0; 48] };
     lines.octets(&with_octet(&ask, N_OF_ASK_AT, LONGEST + 1));
     lines.octets(&with_octet(&ask, PHASE_AT, 3));

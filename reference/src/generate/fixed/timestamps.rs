@@ -50,7 +50,7 @@ fn put_exchanges(lines: &mut Lines) {
     for [t1, t2, t3, t4] in EXCHANGES.into_iter().chain(about_half()) {
         lines.call(Call::Measure { t1, t2, t3, t4 });
         if t1 != 0 {
-            arrival(lines, &waiting(t1), t4, &reply(t1, t2, t3), 48);
+            arrival(lines, &waiting(t1), t4, &reply(t2, t3), 48);
         }
     }
 }
