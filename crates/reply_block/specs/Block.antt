@@ -1,0 +1,66 @@
+-- What the server replies to requests that stand one after another: to each what `server::reply` replies to it.
+use Prim.Native.Nat.{ℕ, zero, suc, min, _+_, _*_, _/_}
+use mathlib.Core.Bool.{not}
+use mathlib.Core.List.{List, _∷_, _++_}
+use lib.Dec.{eqb}
+use lib.IntN.{ℤ}
+use lib.ListN.{length, drop, getD}
+use Rattle.arithmetic.specs.Octets.{part}
+use Rattle.timestamp.specs.declared.Timestamp.{Timestamp}
+use Rattle.timestamp.specs.Timestamp.{timestamp}
+use Rattle.packet.specs.Packet.{packetLength}
+use Rattle.server_packet.specs.declared.Settings.{Settings}
+use Rattle.server.specs.declared.ReplyAnswer.{ReplyAnswer}
+use Rattle.server.specs.declared.ReplyAnswer.the-variants.{Refused, Written}
+use Rattle.server.specs.Server.{replied, repliedBuffer}
+
+-- a refusal's number, and 0 for a reply
+abbrev pub numberOf : ReplyAnswer → ℕ
+numberOf (Refused n) = n
+numberOf Written = 0
+
+-- how many requests are answered: each takes 48 octets of the requests, two times, 48 octets of the replies and a number
+abbrev pub blockCount : (requests times replies numbers : List ℕ) → ℕ
+blockCount requests times replies numbers =
+    min (min (length requests / packetLength) (length times / 2)) (min (length replies / packetLength) (length numbers))
+
+-- the 48 octets at place k, counted from 0, of the requests or of the replies; the T2 and the T3 there
+abbrev pub packetAt : ℕ → List ℕ → List ℕ
+packetAt k octets = part (packetLength * k) packetLength octets
+
+abbrev pub receiveAt : ℕ → List ℕ → Timestamp
+receiveAt k times = timestamp (getD times (2 * k) 0)
+
+abbrev pub transmitAt : ℕ → List ℕ → Timestamp
+transmitAt k times = timestamp (getD times (2 * k + 1) 0)
+
+-- what the replies have at place k once the request there is answered, and the number of that answer
+abbrev pub replyAt : Settings → ℕ → (requests times replies : List ℕ) → List ℕ
+replyAt s k requests times replies = repliedBuffer s (packetAt k requests) (receiveAt k times) (transmitAt k times) (packetAt k replies)
+
+abbrev pub numberAt : Settings → ℕ → (requests times replies : List ℕ) → ℕ
+numberAt s k requests times replies = numberOf (replied s (packetAt k requests) (receiveAt k times) (transmitAt k times) (packetAt k replies))
+
+-- the replies once n requests are answered: that to the first, and then those to the rest; what is past them stays
+unfoldable pub blockReplies : Settings → ℕ → (requests times replies : List ℕ) → List ℕ
+blockReplies s zero requests times replies = replies
+blockReplies s (suc n) requests times replies =
+    replyAt s 0 requests times replies
+    ++ blockReplies s n (drop packetLength requests) (drop 2 times) (drop packetLength replies)
+
+-- the numbers, in the same way
+unfoldable pub blockNumbers : Settings → ℕ → (requests times replies numbers : List ℕ) → List ℕ
+blockNumbers s zero requests times replies numbers = numbers
+blockNumbers s (suc n) requests times replies numbers =
+    numberAt s 0 requests times replies
+    ∷ blockNumbers s n (drop packetLength requests) (drop 2 times) (drop packetLength replies) (drop 1 numbers)
+
+-- the settings that C hands in one by one; synchronised is no at 0, else yes
+abbrev pub settingsOf : (synchronised leap : ℕ) → ℤ → (identifier reference : ℕ) → Settings
+settingsOf synchronised leap precision identifier reference = record {
+  synchronised = not (eqb synchronised 0);
+  leap = leap;
+  precision = precision;
+  identifier = identifier;
+  reference = timestamp reference;
+}
