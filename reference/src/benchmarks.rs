@@ -48,13 +48,19 @@ fn timestamps(timestamp_of: impl Fn(&Date) -> Result<u64, Refusal>) -> u64 {
     sum_of(|i| timestamp_of(&date(i)).map(|timestamp| timestamp >> 32))
 }
 
-/// The server's clock 0 to 34 years ahead, its hold 0 to 6 units, the whole trip 0 to 999.
+/// Four timestamps: the server's clock 0 to 34 years ahead, its hold 0 to 6 units, the whole trip
+/// 0 to 999.
+fn exchange(number: u64) -> [u64; 4] {
+    let sent = number * 0x10_0000_0007;
+    let received = sent + number * 0x3F_FFFF_FFFF_FFFF;
+    [sent, received, received + number % 7, sent + number * 79 % 1000]
+}
+
 fn exchanges() -> u64 {
+    let block: Vec<[u64; 4]> = (0..256).map(exchange).collect();
     sum_of(|i| {
-        let sent = i * 1_000_000_007;
-        let received = sent + i * 461_168_601_842;
-        let Measured { offset, half, delay } =
-            direct_measure::measure(sent, received, received + i % 7, sent + i % 1000)?;
+        let [t1, t2, t3, t4] = block[(i % 256) as usize];
+        let Measured { offset, half, delay } = direct_measure::measure(t1, t2, t3, t4)?;
         Ok(offset as u64 % 0x1_0000_0000 + u64::from(half) + delay as u64 % 0x1_0000_0000)
     })
 }

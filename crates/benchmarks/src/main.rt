@@ -11,30 +11,32 @@ use arrivals::list_value;
 use client::Client;
 use dates::date_value;
 use dates::timestamp_value;
+use exchanges::LENGTH;
 use exchanges::exchange_value;
+use exchanges::exchanges;
 use hex_encode::put_line;
 use libc::STDIN_FILENO;
 use libc::STDOUT_FILENO;
 
 const COUNT: u64 = 10_000_000;
 
-fn value(what: u8, client: Client, packet: &[u8], i: u64) -> u64
+fn value(what: u8, client: Client, packet: &[u8], block: &[u64; LENGTH], i: u64) -> u64
     requires { ⌜ i < 10000000 ⌝ }
     ensures { λ r. ⌜ r < 2 ^ 40 ⌝ }
 {
     match what {
         b'D' => date_value(i),
         b'T' => timestamp_value(i),
-        b'M' => exchange_value(i),
+        b'M' => exchange_value(block, i),
         b'C' => client_value(client, packet, i),
         _ => list_value(client, packet, i),
     }
 }
 
-fn sum_of(what: u8, client: Client, packet: &[u8]) -> u64 {
+fn sum_of(what: u8, client: Client, packet: &[u8], block: &[u64; LENGTH]) -> u64 {
     let mut sum = 0;
     for i in 0..COUNT {
-        sum = (sum + value(what, client, packet, i)) % 0x1_0000_0000;
+        sum = (sum + value(what, client, packet, block, i)) % 0x1_0000_0000;
     }
     sum
 }
@@ -52,7 +54,8 @@ fn main() {
     let mut packet = [0u8; 48];
     let client = arrivals::waiting(&mut request);
     arrivals::reply(&request, &mut packet);
+    let measured = exchanges();
     let mut out = [0u8; 17];
-    put_sum(&mut out, sum_of(block[0], client, &packet));
+    put_sum(&mut out, sum_of(block[0], client, &packet, &measured));
     io::write_all(STDOUT_FILENO, &out);
 }

@@ -1,14 +1,16 @@
 -- The laws of halving, and halving as the code does it.
-use mathlib.Core.Path.{_≡_, refl}
-use Prim.Native.Nat.{_+_, _-_, _%_, _^_, _<_}
+use mathlib.Core.Path.{_≡_, refl, sym, subst, ap, _∙_}
+use mathlib.Core.Bool.{Bool, true, false, not}
+use Prim.Native.Nat.{ℕ, suc, _+_, _-_, _*_, _/_, _%_, _^_, _≤_, _<_}
 use native.Mathlib.Omega.{arith}
-use lib.Bits.{bitAnd, and-mask}
+use lib.Bits.{bitAnd, bitXor, and-mask, and-shr, xor-shr, xor-add-and}
+use lib.Dec.{T, ltb, ltb→lt, nltb→le}
 use lib.IntN.{ℤ, pos, negsuc, _+ℤ_}
 use lib.Signed.{mag, shrZ, mag-shr}
 use mir.Syntax.{w64}
-use mir.Val.{SFits, toZ, ofZ}
+use mir.Val.{Fits, SFits, sel, toZ, ofZ}
 use mir.ValLaws.{sfits-le}
-use mir.Facts.{toZ-pos, toZ-ofZ}
+use mir.Facts.{fits-and, fits-xor, fits-ofZ, sfits-toZ, toZ-pos, toZ-ofZ, ofZ-toZ}
 use Rattle.arithmetic.specs.Modulo.{_modulo_}
 use Rattle.arithmetic.proofs.Integers.{up, dn, integers, sum}
 use Rattle.arithmetic.proofs.Modulo.{modulo-below}
@@ -41,53 +43,67 @@ halving z =
 
 -- ---- in code: a shift to the right by one place is the floor, and the lowest bit is the half
 
-parity : (z : ℤ) → mag z < 2 ^ 63 → ofZ w64 z % 2 ≡ halfOf z
-unfolding halfOf _modulo_
-parity (pos a) h = refl
-parity (negsuc a) h = omega arith
-
 shift : (z : ℤ) → shrZ z 2 ≡ floorHalf z
 unfolding floorHalf
 shift (pos a) = refl
 shift (negsuc a) = refl
 
-module _ {z : ℤ} (f : SFits w64 z) where
-  pub shifted : held w64 (shrZ (held w64 z) 2) ≡ floorHalf z
-  shifted = rw (toZ-ofZ f, toZ-ofZ (sfits-le (mag-shr z 2) f)) (shift z)
+pub shifted : {z : ℤ} → SFits w64 z → held w64 (shrZ z 2) ≡ floorHalf z
+shifted {z} f = rw (toZ-ofZ (sfits-le (mag-shr z 2) f)) (shift z)
 
-  pub low-bit : toZ w64 (bitAnd (ofZ w64 z) 1) ≡ pos (halfOf z)
-  low-bit = rw (and-mask (ofZ w64 z) 1) (rw (parity z (f .sfits)) (toZ-pos w64 (omega (arith, half-below z))))
+parity : (z : ℤ) → mag z < 2 ^ 63 → ofZ w64 z % 2 ≡ halfOf z
+unfolding halfOf _modulo_
+parity (pos a) h = refl
+parity (negsuc a) h = omega arith
 
--- ---- two numbers halved apart, and the halves that are left
+pub low-bit : {n : ℕ} → Fits w64 n → toZ w64 (bitAnd n 1) ≡ pos (halfOf (toZ w64 n))
+low-bit {n} f =
+    let e = ap (λ m. m % 2) (sym (ofZ-toZ f)) ∙ parity (toZ w64 n) (sfits-toZ f .sfits) in
+    rw (and-mask n 1) (rw e (toZ-pos w64 (omega (arith, half-below (toZ w64 n)))))
+
+-- ---- the sum of two numbers, bit by bit: twice the ones that both have, plus the ones that one of them has
+
+-- the highest of 64 bits counts 2^63 in a plain number and -2^63 in a signed one, so 2^64 less
+highest : {n : ℕ} → Fits w64 n → up (toZ w64 n) + 2 ^ 64 * (n / 2 ^ 63) ≡ n + dn (toZ w64 n)
+highest {n} f = go (ltb n (2 ^ 63)) (ltb→lt n (2 ^ 63)) (nltb→le n (2 ^ 63))
+  where
+    read : Bool → ℤ
+    read b = sel b (pos n) (negsuc (2 ^ 64 - suc n))
+
+    go : (b : Bool) → (T b → n < 2 ^ 63) → (T (not b) → 2 ^ 63 ≤ n) → up (read b) + 2 ^ 64 * (n / 2 ^ 63) ≡ n + dn (read b)
+    go true l g = omega (arith, l tt)
+    go false l g = omega (arith, g tt, f .fits)
 
 module _ (p q : ℤ) where
-  abbrev pub left : ℤ
-  left = pos (halfOf p + halfOf q)
+  abbrev pub both : ℤ
+  both = toZ w64 (bitAnd (ofZ w64 p) (ofZ w64 q))
 
-  abbrev pub apart : ℤ
-  apart = floorHalf p +ℤ floorHalf q
-
-  -- together they are the halves of the sum
-  pub together : (apart +ℤ floorHalf left ≡ floorHalf (p +ℤ q)) × (halfOf left ≡ halfOf (p +ℤ q))
-  together =
-      let a = exact-up p in
-      let b = exact-up q in
-      let c = exact-up left in
-      let s = sum p q in
-      let t = sum (floorHalf p) (floorHalf q) in
-      let u = sum apart (floorHalf left) in
-      let o = apart +ℤ floorHalf left in
-      let v = sum o o in
-      halving (p +ℤ q) .only o (halfOf left) (omega (arith, half-below left)) (omega (arith, integers, sum (twice o) (pos (halfOf left))))
+  abbrev pub one : ℤ
+  one = toZ w64 (bitXor (ofZ w64 p) (ofZ w64 q))
 
   module _ (f : SFits w64 p) (g : SFits w64 q) where
-    pub left-fits : SFits w64 left
-    left-fits = record { sfits = omega (arith, half-below p, half-below q) }
+    pub one-fits : Fits w64 (bitXor (ofZ w64 p) (ofZ w64 q))
+    one-fits = fits-xor (fits-ofZ f) (fits-ofZ g)
 
-    pub apart-fits : SFits w64 apart
-    apart-fits =
-        omega (arith, integers, flags, sum (floorHalf p) (floorHalf q), exact-up p, exact-up q, half-below p, half-below q, fits-integers w64 p f, fits-integers w64 q g)
+    bit-by-bit : up both + up both + up one + (dn p + dn q) ≡ up p + up q + (dn both + dn both + dn one)
+    bit-by-bit =
+        let a = ofZ w64 p in
+        let b = ofZ w64 q in
+        let h = highest (fits-and b (fits-ofZ f)) in
+        let i = highest one-fits in
+        let j = subst (λ z. up z + 2 ^ 64 * (a / 2 ^ 63) ≡ a + dn z) (toZ-ofZ f) (highest (fits-ofZ f)) in
+        let k = subst (λ z. up z + 2 ^ 64 * (b / 2 ^ 63) ≡ b + dn z) (toZ-ofZ g) (highest (fits-ofZ g)) in
+        omega (arith, and-shr a b 63, xor-shr a b 63, xor-add-and a b, xor-add-and (a / 2 ^ 63) (b / 2 ^ 63))
 
-    pub together-fits : SFits w64 (apart +ℤ floorHalf left)
-    together-fits =
-        omega (arith, integers, flags, sum (floorHalf p) (floorHalf q), sum apart (floorHalf left), exact-up left, exact-up p, exact-up q, half-below p, half-below q, half-below left, fits-integers w64 p f, fits-integers w64 q g)
+    pub together : (both +ℤ floorHalf one ≡ floorHalf (p +ℤ q)) × (halfOf one ≡ halfOf (p +ℤ q))
+    together =
+        let o = both +ℤ floorHalf one in
+        let a = bit-by-bit in
+        let b = exact-up one in
+        let c = sum both (floorHalf one) in
+        let d = sum p q in
+        let e = sum o o in
+        halving (p +ℤ q) .only o (halfOf one) (omega (arith, half-below one)) (omega (arith, integers, sum (twice o) (pos (halfOf one))))
+
+    pub together-fits : SFits w64 (both +ℤ floorHalf one)
+    together-fits = omega (arith, integers, flags, sum both (floorHalf one), exact-up one, half-below one, bit-by-bit, fits-integers w64 p f, fits-integers w64 q g)

@@ -16,15 +16,15 @@ pub struct Halves {
     pub half: u8,
 }
 
-// P + Q halved. The sum may need 65 bits, so each is halved by itself, and what the two halvings leave makes one more where both are odd.
+// P + Q halved. The sum may need 65 bits, so it is not formed: it is twice P & Q, the ones that both have, plus P ^ Q, the ones that one of them has.
 // A shift to the right rounds down also below zero, where a division rounds toward zero.
 pub fn halve(p: i64, q: i64) -> Halves
     ensures { λ r. ⌜ r ≡ halves (p +ℤ q) ⌝ }
 {
-    let left = (p & 1) + (q & 1);
+    let one = p ^ q;
     Halves {
-        offset: (p >> 1) + (q >> 1) + (left >> 1),
-        half: (left & 1) as u8,
+        offset: (p & q) + (one >> 1),
+        half: (one & 1) as u8,
     }
 }
 
