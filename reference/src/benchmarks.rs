@@ -31,21 +31,29 @@ fn dates(date_of: impl Fn(u64) -> Result<Date, Refusal>) -> u64 {
     sum_of(|i| date_of(i * STEP).map(|date| weighed(&date)))
 }
 
-/// One of the dates to convert.
-fn date(i: u64) -> Date {
+/// The numbers of a date to convert.
+fn date_numbers(number: u64) -> [u64; 8] {
+    let (month, day) = (1 + number / 137 % 12, 1 + number / 1644 % 31);
+    [1968 + number % 137, month, day, number % 24, number % 60, number / 60 % 60, 1, 0]
+}
+
+fn date(numbers: &[u64; 8]) -> Date {
+    let &[year, month, day, hour, minute, second, fraction, _] = numbers;
     Date {
-        year: (1968 + i % 137) as u32,
-        month: (1 + i / 137 % 12) as u8,
-        day: (1 + i / 1644 % 31) as u8,
-        hour: (i % 24) as u8,
-        minute: (i % 60) as u8,
-        second: (i / 60 % 60) as u8,
-        fraction: 1,
+        year: year as u32,
+        month: month as u8,
+        day: day as u8,
+        hour: hour as u8,
+        minute: minute as u8,
+        second: second as u8,
+        fraction: fraction as u32,
     }
 }
 
+/// The dates are read from memory, so that the compiler knows nothing of them.
 fn timestamps(timestamp_of: impl Fn(&Date) -> Result<u64, Refusal>) -> u64 {
-    sum_of(|i| timestamp_of(&date(i)).map(|timestamp| timestamp >> 32))
+    let dates: Vec<[u64; 8]> = (0..128).map(|i| date_numbers(i * 39_119)).collect();
+    sum_of(|i| timestamp_of(&date(&dates[(i % 128) as usize])).map(|timestamp| timestamp >> 32))
 }
 
 /// Four timestamps: the server's clock 0 to 34 years ahead, its hold 0 to 6 units, the whole trip

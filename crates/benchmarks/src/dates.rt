@@ -1,5 +1,6 @@
-// Timestamps to dates and back, over the whole window.
+// Timestamps to dates and back, over the whole window. The dates are read from memory: nothing is known of them beforehand.
 ghost use Prim.Native.Nat.{_<_, _^_};
+use crate::exchanges::LENGTH;
 use calendar::Date;
 use calendar::DateAnswer;
 use calendar::TimestampAnswer;
@@ -27,23 +28,49 @@ pub(crate) fn date_value(i: u64) -> u64
     }
 }
 
-// Dates of every year of the window, month by month; some of them do not exist.
-fn date_number(i: u64) -> Date {
+pub(crate) const COUNT: usize = 128;
+
+// Dates of many years and every month, eight numbers each; some of them do not exist.
+pub(crate) fn dates() -> [u64; LENGTH] {
+    let mut block = [0u64; LENGTH];
+    for i in 0..COUNT {
+        let number = i as u64 * 39_119;
+        block[8 * i] = 1968 + number % 137;
+        block[8 * i + 1] = 1 + number / 137 % 12;
+        block[8 * i + 2] = 1 + number / 1644 % 31;
+        block[8 * i + 3] = number % 24;
+        block[8 * i + 4] = number % 60;
+        block[8 * i + 5] = number / 60 % 60;
+        block[8 * i + 6] = 1;
+    }
+    block
+}
+
+fn octet(x: u64) -> u8 {
+    (x % 256) as u8
+}
+
+fn word(x: u64) -> u32 {
+    (x % 0x1_0000_0000) as u32
+}
+
+fn date(block: &[u64; LENGTH], i: u64) -> Date {
+    let at = (i % 128) as usize * 8;
     Date {
-        year: (1968 + i % 137) as u32,
-        month: (1 + i / 137 % 12) as u8,
-        day: (1 + i / 1644 % 31) as u8,
-        hour: (i % 24) as u8,
-        minute: (i % 60) as u8,
-        second: (i / 60 % 60) as u8,
-        fraction: 1,
+        year: word(block[at]),
+        month: octet(block[at + 1]),
+        day: octet(block[at + 2]),
+        hour: octet(block[at + 3]),
+        minute: octet(block[at + 4]),
+        second: octet(block[at + 5]),
+        fraction: word(block[at + 6]),
     }
 }
 
-pub(crate) fn timestamp_value(i: u64) -> u64
+pub(crate) fn timestamp_value(block: &[u64; LENGTH], i: u64) -> u64
     ensures { λ r. ⌜ r < 2 ^ 40 ⌝ }
 {
-    match calendar::timestamp_of_date(date_number(i)) {
+    match calendar::timestamp_of_date(date(block, i)) {
         TimestampAnswer::Refused(number) => number as u64,
         TimestampAnswer::Timestamp(t) => t.0 / Timestamp::SECOND,
     }

@@ -10,6 +10,7 @@ use arrivals::client_value;
 use arrivals::list_value;
 use client::Client;
 use dates::date_value;
+use dates::dates;
 use dates::timestamp_value;
 use exchanges::LENGTH;
 use exchanges::exchange_value;
@@ -26,7 +27,7 @@ fn value(what: u8, client: Client, packet: &[u8], block: &[u64; LENGTH], i: u64)
 {
     match what {
         b'D' => date_value(i),
-        b'T' => timestamp_value(i),
+        b'T' => timestamp_value(block, i),
         b'M' => exchange_value(block, i),
         b'C' => client_value(client, packet, i),
         _ => list_value(client, packet, i),
@@ -54,8 +55,11 @@ fn main() {
     let mut packet = [0u8; 48];
     let client = arrivals::waiting(&mut request);
     arrivals::reply(&request, &mut packet);
-    let measured = exchanges();
+    let in_memory = match block[0] {
+        b'T' => dates(),
+        _ => exchanges(),
+    };
     let mut out = [0u8; 17];
-    put_sum(&mut out, sum_of(block[0], client, &packet, &measured));
+    put_sum(&mut out, sum_of(block[0], client, &packet, &in_memory));
     io::write_all(STDOUT_FILENO, &out);
 }

@@ -3,13 +3,15 @@ use mathlib.Core.Path.{_≡_, refl, sym, subst}
 use mathlib.Core.Bool.{Bool, true, false, cond, _&&_, and-eq-true-iff}
 use mathlib.Core.List.{_∷_}
 use Prim.Native.Nat.{ℕ, zero, suc, _+_, _-_, _*_, _/_, _%_, _≤_, _<_}
-use native.Mathlib.Nat.{not-suc-le-zero, zero-lt-suc, lt-of-not-le}
+use native.Mathlib.Nat.{add-zero, not-suc-le-zero, zero-lt-suc, lt-of-not-le}
+use native.Mathlib.Numerals.{add-one}
 use native.Mathlib.Omega.{arith}
-use borrow.Author.Tests.{eqb-true, eqb-false}
+use borrow.Author.Tests.{eqb-true, eqb-false, leb-false}
 use lib.Dec.{eqb, leb, ltb}
 use lib.ListN.{List·getD-eq-default}
-use Rattle.calendar.specs.Gregorian.{monthLengths, monthDays, before, last}
+use Rattle.calendar.specs.Gregorian.{leapDays, yearDays, monthLengths, monthDays, before, last}
 use Rattle.calendar.proofs.Before.{last-has}
+use Rattle.calendar.proofs.Years.{leap-small}
 
 -- f holds of each number below n
 abbrev all : ℕ → (ℕ → Bool) → Bool
@@ -33,8 +35,8 @@ agree-at n f g t ℓ k h b =
     eqb-true (f ℓ k) (g ℓ k)
     (all-at (n ℓ) (λ k. eqb (f ℓ k) (g ℓ k)) (all-at 2 (λ ℓ. all (n ℓ) (λ k. eqb (f ℓ k) (g ℓ k))) t ℓ h) k b)
 
--- the days of the month m, as `month_days` computes them
-abbrev daysIn : ℕ → ℕ → ℕ
+-- the days of the month m, as `days_in_month` computes them
+abbrev pub daysIn : ℕ → ℕ → ℕ
 daysIn ℓ m = cond (eqb m 0) 0 (cond (eqb m 2) (28 + ℓ) (30 + (m + m / 8) % 2))
 
 pub days-in : (ℓ m : ℕ) → ℓ < 2 → m < 13 → daysIn ℓ m ≡ monthDays ℓ m
@@ -58,6 +60,15 @@ daysBefore ℓ m = cond (leb m 2) ((367 * m - 362) / 12) ((367 * m - 362) / 12 +
 pub days-before : (ℓ m : ℕ) → ℓ < 2 → m < 13 → daysBefore ℓ m ≡ before (monthDays ℓ) m
 unfolding monthDays before
 days-before = agree-at (λ ℓ. 13) daysBefore (λ ℓ. before (monthDays ℓ)) refl
+
+-- the days to the month m, as `days_to_month` computes them: from March on counted from the next year
+pub days-to : (y m : ℕ) → m < 13 → before yearDays (y + cond (leb m 2) 0 1) + (367 * m - 362) / 12 ≡ before yearDays y + before (monthDays (leapDays y)) m + 367 * cond (leb m 2) 0 1
+days-to y m h = go (leb m 2) refl (days-before (leapDays y) m (leap-small y) h)
+  where
+    go : (b : Bool) → leb m 2 ≡ b → cond b ((367 * m - 362) / 12) ((367 * m - 362) / 12 + leapDays y - 2) ≡ before (monthDays (leapDays y)) m
+        → before yearDays (y + cond b 0 1) + (367 * m - 362) / 12 ≡ before yearDays y + before (monthDays (leapDays y)) m + 367 * cond b 0 1
+    go true t e = rw add-zero (omega (arith, e))
+    go false t e = unfold before yearDays in rw add-one (omega (arith, e, leb-false m 2 t))
 
 -- a year is its months
 pub year-months : (ℓ : ℕ) → before (monthDays ℓ) 13 ≡ 365 + ℓ

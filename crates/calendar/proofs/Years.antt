@@ -8,9 +8,17 @@ use native.Mathlib.Omega.{arith}
 use borrow.Author.Tests.{eqb-true, eqb-false}
 use lib.Arith.{digits-div}
 use lib.Dec.{eqb, eqb·suc-zero}
-use Rattle.calendar.specs.Gregorian.{divides, leapDays, yearDays, before}
+use Rattle.calendar.specs.Gregorian.{divides, leapYear, leapDays, yearDays, before}
 use Rattle.calendar.specs.Dates.{yearOn}
 use Rattle.calendar.proofs.Before.{last-is}
+
+pub leap-small : (y : ℕ) → leapDays y < 2
+unfolding leapDays
+leap-small y = go (leapYear y)
+  where
+    go : (b : Bool) → cond b 1 0 < 2
+    go true = omega arith
+    go false = omega arith
 
 -- 1 where k divides y, and else 0
 divisible : ℕ → ℕ → ℕ

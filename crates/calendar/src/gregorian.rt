@@ -1,5 +1,7 @@
 // Years and months of the Gregorian calendar, each worked out directly. `leap` is the number of leap days of a year, 0 or 1.
 ghost use mathlib.Core.Path.{_≡_};
+ghost use mathlib.Core.Bool.{cond};
+ghost use lib.Dec.{leb};
 ghost use Prim.Native.Nat.{_+_, _*_, _^_, _≤_, _<_};
 ghost use Rattle.calendar.specs.Gregorian.{leapDays, yearDays, monthDays, before, last};
 ghost use Rattle.calendar.specs.Dates.{yearOn};
@@ -40,9 +42,8 @@ pub(crate) fn year_on(n: u64) -> u64
 }
 
 // The length of a month. Up to July and from August on 31 and 30 take turns, February aside.
-fn month_days(extra: u64, month: u64) -> u64
-    requires { ⌜ extra < 2 ⌝ }
-    ensures { λ r. ⌜ r ≡ monthDays extra month ⌝ }
+pub(crate) fn days_in_month(year: u64, month: u64) -> u64
+    ensures { λ r. ⌜ r ≡ monthDays (leapDays year) month ⌝ }
 {
     if 12 < month {
         return 0;
@@ -51,16 +52,9 @@ fn month_days(extra: u64, month: u64) -> u64
         return 0;
     }
     if month == 2 {
-        28 + extra
-    } else {
-        30 + (month + month / 8) % 2
+        return 28 + leap_days(year);
     }
-}
-
-pub(crate) fn days_in_month(year: u64, month: u64) -> u64
-    ensures { λ r. ⌜ r ≡ monthDays (leapDays year) month ⌝ }
-{
-    month_days(leap_days(year), month)
+    30 + (month + month / 8) % 2
 }
 
 // The days of the year before a month: 367/12 a month, as if February had 30 days.
@@ -70,6 +64,23 @@ pub(crate) fn days_before_month(extra: u64, month: u64) -> u64
 {
     let n = (367 * month - 362) / 12;
     if month <= 2 { n } else { n + extra - 2 }
+}
+
+// Whether February is over: 0 or 1.
+fn after_february(month: u64) -> u64
+    ensures { λ r. ⌜ (r ≡ cond (leb month 2) 0 1) × (r < 2) ⌝ }
+{
+    if month <= 2 { 0 } else { 1 }
+}
+
+// The days from the start of the year 0 to a month. From March on they are counted to the next year's start, and 367 days less: so the leap day is one of
+// those before a year, and the year's own need not be known.
+pub(crate) fn days_to_month(year: u64, month: u64) -> u64
+    requires { ⌜ (year < 2 ^ 32) × (0 < month) × (month < 13) ⌝ }
+    ensures { λ r. ⌜ (r ≡ before yearDays year + before (monthDays (leapDays year)) month) × (r ≤ 366 * year + 800) ⌝ }
+{
+    let after = after_february(month);
+    days_before_year(year + after) + (367 * month - 362) / 12 - 367 * after
 }
 
 // The month of the day k after the start of a year, by the same count.

@@ -118,12 +118,8 @@ fn seconds_to(d: Date) -> u64
     requires { ⌜ (0 < d .month) × (d .month < 13) × (0 < d .day) ⌝ }
     ensures { λ r. ⌜ r ≡ secondsTo d ⌝ }
 {
-    let year = d.year as u64;
-    let extra = gregorian::leap_days(year);
-    let days = gregorian::days_before_year(year)
-        + gregorian::days_before_month(extra, d.month as u64)
-        + (d.day as u64 - 1);
-    ((days * 24 + d.hour as u64) * 60 + d.minute as u64) * 60 + d.second as u64
+    let days = gregorian::days_to_month(d.year as u64, d.month as u64) + (d.day as u64 - 1);
+    days * 86400 + (d.hour as u64 * 60 + d.minute as u64) * 60 + d.second as u64
 }
 
 // Whether the window has the second s after the start of the year 0.
@@ -136,16 +132,12 @@ fn in_window(s: u64) -> bool
     s <= WINDOW_END
 }
 
-// The seconds of a timestamp: from the start of its era to the second s after the start of the year 0.
+// The seconds of a timestamp: from the start of its era to the second s after the start of the year 0. An era has 2^32 seconds.
 fn era_seconds(s: u64) -> u32
     requires { ⌜ (start1900 ≤ s) × (s < start2036 + 2 ^ 32) ⌝ }
     ensures { λ r. ⌜ r ≡ eraSeconds s ⌝ }
 {
-    if s < START_2036 {
-        (s - START_1900) as u32
-    } else {
-        (s - START_2036) as u32
-    }
+    ((s - START_1900) % 0x1_0000_0000) as u32
 }
 
 // A timestamp as an answer. Refusals: 24.
