@@ -2,7 +2,7 @@
 ghost use mathlib.Core.Path.{_≡_};
 ghost use Prim.Native.Nat.{_+_, _*_, _≤_};
 ghost use mathlib.Core.Bool.{false};
-ghost use mathlib.Core.List.{_++_};
+ghost use mathlib.Core.List.{_++_, reverse};
 ghost use lib.ListN.{length, take};
 ghost use lib.Seq.{sets};
 ghost use Rattle.arithmetic.specs.Octets.{octets};
@@ -108,16 +108,16 @@ fn first_octet(leap: u8, version: u8, mode: u8) -> u8
     leap * 64 + version * 8 + mode
 }
 
-// The number of octets 0 to 3.
+// Octets 0 to 3 as a number, the lowest octet first: so the compiler keeps what does not change from packet to packet apart, and reverses nothing.
 fn first_word(fields: Fields) -> u32
     requires { ⌜ fieldTooLarge fields ≡ false ⌝ }
-    ensures { λ r. ⌜ octets 4 r ≡ take 4 (octetsOf fields) ⌝ }
+    ensures { λ r. ⌜ reverse (octets 4 r) ≡ take 4 (octetsOf fields) ⌝ }
 {
     octets::be32(
-        first_octet(fields.leap, fields.version, fields.mode),
-        fields.stratum,
-        fields.poll,
         twos_complement::bits8(fields.precision),
+        fields.poll,
+        fields.stratum,
+        first_octet(fields.leap, fields.version, fields.mode),
     )
 }
 
@@ -127,7 +127,7 @@ fn put_fields(b: &mut [u8], fields: Fields)
     requires { ⌜ fieldTooLarge fields ≡ false ⌝ }
     ensures { λ _. ⌜ now (b .exit) ≡ sets (now (b .entry)) 0 (octetsOf fields) ⌝ }
 {
-    slices::write_be32(b, 0, first_word(fields));
+    slices::write_le32(b, 0, first_word(fields));
     slices::write_be32(b, 4, twos_complement::bits32(fields.root_delay));
     slices::write_be32(b, 8, fields.root_dispersion);
     slices::write_be32(b, 12, fields.identifier);

@@ -9,7 +9,7 @@ use lib.ListN.{length, length-reverse}
 use lib.Seq.{sets}
 use Rattle.arithmetic.specs.Octets.{bigEndian, octets, part}
 use Rattle.arithmetic.proofs.Octets.{length-octets, octets-add, octets-mod, sets-append}
-use Rattle.slices.specs.Slices.{readAt, writeAt}
+use Rattle.slices.specs.Slices.{readAt, writeAt, writeReversedAt}
 
 module _ (n : ℕ) (p : List ℕ) (at : ℕ) where
   -- what the test whether there is room tells, by its answer r
@@ -30,6 +30,14 @@ module _ (n : ℕ) (p : List ℕ) (at : ℕ) where
     unfolding writeAt
     not-written e x = rw (sym test ∙ e)
 
+    pub reversed : r ≡ true → (x : ℕ) {b : List ℕ} → b ≡ sets p at (reverse (octets n x)) → b ≡ writeReversedAt n p at x
+    unfolding writeReversedAt
+    reversed e x f = rw (sym test ∙ e) f
+
+    pub not-reversed : r ≡ false → (x : ℕ) → p ≡ writeReversedAt n p at x
+    unfolding writeReversedAt
+    not-reversed e x = rw (sym test ∙ e)
+
   -- where there is room
   module _ (room : at + n ≤ length p) where
     pub number-room : readAt n p at ≡ bigEndian (part at n p)
@@ -39,6 +47,10 @@ module _ (n : ℕ) (p : List ℕ) (at : ℕ) where
     pub put-room : (x : ℕ) → writeAt n p at x ≡ sets p at (octets n x)
     unfolding writeAt
     put-room x = rw (le-leb (at + n) (length p) room)
+
+    pub reversed-room : (x : ℕ) → writeReversedAt n p at x ≡ sets p at (reverse (octets n x))
+    unfolding writeReversedAt
+    reversed-room x = rw (le-leb (at + n) (length p) room)
 
 -- the m + n octets of y in reverse order are stored by the lower n and then the higher m
 pub sets-halves : (m n : ℕ) (l : List ℕ) (at y : ℕ)

@@ -6,7 +6,7 @@ ghost use lib.Dec.{leb};
 ghost use lib.ListN.{length};
 ghost use lib.Seq.{sets};
 ghost use Rattle.arithmetic.specs.Octets.{bigEndian, octets, part};
-ghost use Rattle.slices.specs.Slices.{readAt, writeAt};
+ghost use Rattle.slices.specs.Slices.{readAt, writeAt, writeReversedAt};
 use octets::be32;
 use octets::from_halves;
 use octets::swap_octets32;
@@ -109,6 +109,15 @@ pub fn write_be32(b: &mut [u8], at: usize, x: u32)
 {
     if has_room(b.len(), at, 4) {
         store_be32(b, at, x);
+    }
+}
+
+// The same with the lowest octet first, for a number that is put together in that order.
+pub fn write_le32(b: &mut [u8], at: usize, x: u32)
+    ensures { λ _. ⌜ now (b .exit) ≡ writeReversedAt 4 (now (b .entry)) at x ⌝ }
+{
+    if has_room(b.len(), at, 4) {
+        store_reversed(b, at, x);
     }
 }
 
