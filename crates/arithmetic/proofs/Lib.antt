@@ -3,3 +3,4 @@ pub mod Modulo
 pub mod TwosComplement
 pub mod Machine
 pub mod Octets
+pub mod Parts

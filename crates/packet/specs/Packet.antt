@@ -61,6 +61,13 @@ packetLength = 48
 abbrev pub authenticatedLength : ℕ
 authenticatedLength = packetLength + 20
 
+-- packets that stand one after another: how many there are, and that at place k, counted from 0
+abbrev pub packetCount : List ℕ → ℕ
+packetCount packets = length packets / packetLength
+
+abbrev pub packetAt : ℕ → List ℕ → List ℕ
+packetAt k packets = part (packetLength * k) packetLength packets
+
 -- a packet of neither length
 abbrev pub wrongLength : List ℕ → Bool
 wrongLength packet = not (eqb (length packet) packetLength || eqb (length packet) authenticatedLength)

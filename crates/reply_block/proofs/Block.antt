@@ -8,13 +8,14 @@ use lib.ListN.{take, drop, set}
 use lib.Seq.{drop-drop, getD-drop}
 use Rattle.arithmetic.specs.Octets.{part}
 use Rattle.arithmetic.proofs.Octets.{length-part}
-use Rattle.packet.specs.Packet.{packetLength}
+use Rattle.packet.specs.Packet.{packetLength, packetAt}
 use Rattle.server_packet.specs.declared.Settings.{Settings}
 use Rattle.server.specs.Server.{replied, repliedBuffer}
 use Rattle.server.proofs.Replies as server
-use Rattle.reply_block.specs.Block.{numberOf, blockCount, packetAt, receiveAt, transmitAt, replyAt, numberAt, blockReplies, blockNumbers}
+use Rattle.reply_block.specs.Block.{numberOf, blockCount, receiveAt, transmitAt, replyAt, numberAt, blockReplies, blockNumbers}
 use Rattle.reply_block.specs.Laws.{BlockLaws}
-use Rattle.reply_block.proofs.Parts.{replaced, first-replaced, Each, part-replaced, past-replaced, length-replaced, next-replaced, singles, getD-singles, drop-singles, length-singles, set-singles}
+use Rattle.arithmetic.specs.Parts.{replaced, Each}
+use Rattle.arithmetic.proofs.Parts.{first-replaced, part-replaced, past-replaced, length-replaced, next-replaced, singles, getD-singles, drop-singles, length-singles, set-singles}
 
 -- place k of the rest is the place after it of the whole
 module _ (k : ℕ) where

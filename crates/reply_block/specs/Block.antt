@@ -5,10 +5,9 @@ use mathlib.Core.List.{List, _∷_, _++_}
 use lib.Dec.{eqb}
 use lib.IntN.{ℤ}
 use lib.ListN.{length, drop, getD}
-use Rattle.arithmetic.specs.Octets.{part}
 use Rattle.timestamp.specs.declared.Timestamp.{Timestamp}
 use Rattle.timestamp.specs.Timestamp.{timestamp}
-use Rattle.packet.specs.Packet.{packetLength}
+use Rattle.packet.specs.Packet.{packetLength, packetCount, packetAt}
 use Rattle.server_packet.specs.declared.Settings.{Settings}
 use Rattle.server.specs.declared.ReplyAnswer.{ReplyAnswer}
 use Rattle.server.specs.declared.ReplyAnswer.the-variants.{Refused, Written}
@@ -22,12 +21,9 @@ numberOf Written = 0
 -- how many requests are answered: each takes 48 octets of the requests, two times, 48 octets of the replies and a number
 abbrev pub blockCount : (requests times replies numbers : List ℕ) → ℕ
 blockCount requests times replies numbers =
-    min (min (length requests / packetLength) (length times / 2)) (min (length replies / packetLength) (length numbers))
+    min (min (packetCount requests) (length times / 2)) (min (packetCount replies) (length numbers))
 
--- the 48 octets at place k, counted from 0, of the requests or of the replies; the T2 and the T3 there
-abbrev pub packetAt : ℕ → List ℕ → List ℕ
-packetAt k octets = part (packetLength * k) packetLength octets
-
+-- the T2 and the T3 of place k
 abbrev pub receiveAt : ℕ → List ℕ → Timestamp
 receiveAt k times = timestamp (getD times (2 * k) 0)
 

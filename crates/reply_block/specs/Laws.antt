@@ -4,9 +4,9 @@ use Prim.Native.Nat.{ℕ, _*_, _<_}
 use mathlib.Core.Path.{_≡_}
 use mathlib.Core.List.{List}
 use lib.ListN.{length, drop, getD}
-use Rattle.packet.specs.Packet.{packetLength}
+use Rattle.packet.specs.Packet.{packetLength, packetAt}
 use Rattle.server_packet.specs.declared.Settings.{Settings}
-use Rattle.reply_block.specs.Block.{packetAt, replyAt, numberAt, blockReplies, blockNumbers}
+use Rattle.reply_block.specs.Block.{replyAt, numberAt, blockReplies, blockNumbers}
 
 pub record BlockLaws (s : Settings) (n : ℕ) (requests times replies numbers : List ℕ) : Type 0 where
   -- each place has the reply to its request, and the number of that reply

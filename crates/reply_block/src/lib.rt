@@ -9,6 +9,7 @@ ghost use Rattle.server.specs.Server.{replied, repliedBuffer};
 ghost use Rattle.reply_block.specs.Block.{numberOf, blockCount, numberAt, replyAt, blockReplies, blockNumbers};
 use server::ReplyAnswer;
 use server_packet::Settings;
+use slices::least;
 use timestamp::Timestamp;
 
 pub mod c_entry;
@@ -29,12 +30,6 @@ fn reply_number(settings: Settings, request: &[u8], t2: u64, t3: u64, buffer: &m
     ensures buffer { λ _. ⌜ now (buffer .exit) ≡ repliedBuffer settings (now (request .entry)) (timestamp t2) (timestamp t3) (now (buffer .entry)) ⌝ }
 {
     number_of(server::reply(settings, request, Timestamp(t2), Timestamp(t3), buffer))
-}
-
-fn least(a: usize, b: usize) -> usize
-    ensures { λ r. ⌜ r ≡ min a b ⌝ }
-{
-    if a < b { a } else { b }
 }
 
 // How many requests are answered, by the four lengths.

@@ -1,7 +1,7 @@
 // Numbers in a slice of octets, read and stored.
 ghost use mathlib.Core.Path.{_≡_};
 ghost use mathlib.Core.List.{[], _∷_, reverse};
-ghost use Prim.Native.Nat.{_+_, _≤_};
+ghost use Prim.Native.Nat.{_+_, _≤_, min};
 ghost use lib.Dec.{leb};
 ghost use lib.ListN.{length};
 ghost use lib.Seq.{sets};
@@ -11,6 +11,13 @@ use octets::be32;
 use octets::from_halves;
 use octets::swap_octets32;
 use octets::swap_octets64;
+
+// The smaller of two lengths.
+pub fn least(a: usize, b: usize) -> usize
+    ensures { λ r. ⌜ r ≡ min a b ⌝ }
+{
+    if a < b { a } else { b }
+}
 
 // Whether a slice of this length has n octets from index at on.
 fn has_room(length: usize, at: usize, n: usize) -> bool

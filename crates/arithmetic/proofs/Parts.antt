@@ -1,22 +1,14 @@
 -- Lists of one length, one after another, in place of the first parts of a list. Assumes nothing.
-use Prim.Native.Nat.{ℕ, zero, suc, _+_, _*_, _≤_, _<_}
+use Prim.Native.Nat.{ℕ, zero, suc, _+_, _-_, _*_, _≤_, _<_}
 use native.Mathlib.Omega.{arith}
 use native.Mathlib.Nat.{mul-zero, mul-suc, one-mul, add-zero}
 use native.Mathlib.Numerals.{add-one}
-use mathlib.Core.Path.{_≡_, refl, ap, sym}
+use mathlib.Core.Path.{_≡_, refl, ap, sym, _∙_}
 use mathlib.Core.List.{List, [], _∷_, _++_, append-assoc, append-nil}
 use lib.ListN.{length, take, drop, set, getD, length-append, length-drop}
 use lib.Seq.{take-at, drop-at, drop-drop, getD-take, getD-drop, set-split, append-snoc}
 use Rattle.arithmetic.specs.Octets.{part}
-
--- f 0, f 1, .., n of them
-abbrev pub joined : (ℕ → List ℕ) → ℕ → List ℕ
-joined f zero = []
-joined f (suc n) = f 0 ++ joined (λ k. f (suc k)) n
-
--- l with these in place of its first n parts of w elements
-abbrev pub replaced : ℕ → List ℕ → (ℕ → List ℕ) → ℕ → List ℕ
-replaced w l f n = joined f n ++ drop (w * n) l
+use Rattle.arithmetic.specs.Parts.{joined, replaced, Each, Replaced}
 
 joined-last : (f : ℕ → List ℕ) (n : ℕ) → joined f n ++ f n ≡ joined f (suc n)
 joined-last f zero = sym (append-nil (f 0))
@@ -27,10 +19,6 @@ pub first-replaced : (w : ℕ) (l : List ℕ) (f : ℕ → List ℕ) (n : ℕ) �
 first-replaced w l f n =
     let e : w * suc n ≡ w + w * n = rw mul-suc (omega arith) in
     rw (e, drop-drop, append-assoc)
-
--- each of the first n has w elements
-abbrev pub Each : ℕ → (ℕ → List ℕ) → ℕ → Type 0
-Each w f n = (k : ℕ) → k < n → length (f k) ≡ w
 
 module _ (w : ℕ) where
   length-joined : (f : ℕ → List ℕ) (n : ℕ) → Each w f n → length (joined f n) ≡ w * n
@@ -56,10 +44,30 @@ module _ (w : ℕ) where
     pub length-replaced : w * n ≤ length l → length (replaced w l f n) ≡ length l
     length-replaced h = rw (length-append, length-joined f n each, length-drop) (omega arith)
 
+    pub parts : w * n ≤ length l → Replaced w l f n
+    parts h = record { place = part-replaced; past = past-replaced; length-kept = length-replaced h }
+
     -- one part more
     pub next-replaced : take (w * n) (replaced w l f n) ++ f n ++ drop (w * n + w) (replaced w l f n) ≡ replaced w l f (suc n)
     next-replaced =
         rw (take-at (joined f n) _ (w * n) (length-joined f n each), ← drop-drop w (w * n), past-replaced, drop-drop, joined-last f n, mul-suc)
+
+-- a part of w elements, lent to g and put back
+module _ (w : ℕ) (l : List ℕ) (at : ℕ) where
+  pub same-part : part at (at + w - at) l ≡ part at w l
+  same-part = let e : at + w - at ≡ w = omega arith in rw e
+
+  pub put-back : (g : List ℕ → List ℕ) {after : List ℕ} → after ≡ g (part at (at + w - at) l)
+      → take at l ++ (after ++ drop (at + w - at) (drop at l)) ≡ take at l ++ g (part at w l) ++ drop (at + w) l
+  put-back g h = let e : at + w - at ≡ w = omega arith in rw (h, e, drop-drop, append-assoc)
+
+-- one part more, where g makes part k of what stands there
+module _ (w : ℕ) (l : List ℕ) (g : ℕ → List ℕ → List ℕ) (n : ℕ) (each : Each w (λ k. g k (part (w * k) w l)) n) where
+  pub next-made : {held after : List ℕ} → held ≡ replaced w l (λ k. g k (part (w * k) w l)) n
+      → after ≡ take (w * n) held ++ g n (part (w * n) w held) ++ drop (w * n + w) held → after ≡ replaced w l (λ k. g k (part (w * k) w l)) (n + 1)
+  next-made h e =
+      let f : ℕ → List ℕ = λ k. g k (part (w * k) w l) in
+      e ∙ rw (h, past-replaced w l f n each, add-one n) (next-replaced w l f n each)
 
 -- parts of one element
 module _ (l : List ℕ) (f : ℕ → ℕ) where
