@@ -14,12 +14,6 @@ joined-last : (f : ℕ → List ℕ) (n : ℕ) → joined f n ++ f n ≡ joined 
 joined-last f zero = sym (append-nil (f 0))
 joined-last f (suc n) = rw append-assoc (ap (λ l. f 0 ++ l) (joined-last (λ k. f (suc k)) n))
 
--- the first part, and then those of the rest
-pub first-replaced : (w : ℕ) (l : List ℕ) (f : ℕ → List ℕ) (n : ℕ) → f 0 ++ replaced w (drop w l) (λ k. f (suc k)) n ≡ replaced w l f (suc n)
-first-replaced w l f n =
-    let e : w * suc n ≡ w + w * n = rw mul-suc (omega arith) in
-    rw (e, drop-drop, append-assoc)
-
 module _ (w : ℕ) where
   length-joined : (f : ℕ → List ℕ) (n : ℕ) → Each w f n → length (joined f n) ≡ w * n
   length-joined f zero each = sym (mul-zero w)

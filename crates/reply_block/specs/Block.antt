@@ -1,10 +1,11 @@
 -- What the server replies to requests that stand one after another: to each what `server::reply` replies to it.
-use Prim.Native.Nat.{ℕ, zero, suc, min, _+_, _*_, _/_}
+use Prim.Native.Nat.{ℕ, min, _+_, _*_, _/_}
 use mathlib.Core.Bool.{not}
-use mathlib.Core.List.{List, _∷_, _++_}
+use mathlib.Core.List.{List, [], _∷_}
 use lib.Dec.{eqb}
 use lib.IntN.{ℤ}
-use lib.ListN.{length, drop, getD}
+use lib.ListN.{length, getD}
+use Rattle.arithmetic.specs.Parts.{replaced}
 use Rattle.timestamp.specs.declared.Timestamp.{Timestamp}
 use Rattle.timestamp.specs.Timestamp.{timestamp}
 use Rattle.packet.specs.Packet.{packetLength, packetCount, packetAt}
@@ -37,19 +38,12 @@ replyAt s k requests times replies = repliedBuffer s (packetAt k requests) (rece
 abbrev pub numberAt : Settings → ℕ → (requests times replies : List ℕ) → ℕ
 numberAt s k requests times replies = numberOf (replied s (packetAt k requests) (receiveAt k times) (transmitAt k times) (packetAt k replies))
 
--- the replies once n requests are answered: that to the first, and then those to the rest; what is past them stays
+-- the replies once n requests are answered, and the numbers; what is past them stays
 unfoldable pub blockReplies : Settings → ℕ → (requests times replies : List ℕ) → List ℕ
-blockReplies s zero requests times replies = replies
-blockReplies s (suc n) requests times replies =
-    replyAt s 0 requests times replies
-    ++ blockReplies s n (drop packetLength requests) (drop 2 times) (drop packetLength replies)
+blockReplies s n requests times replies = replaced packetLength replies (λ k. replyAt s k requests times replies) n
 
--- the numbers, in the same way
 unfoldable pub blockNumbers : Settings → ℕ → (requests times replies numbers : List ℕ) → List ℕ
-blockNumbers s zero requests times replies numbers = numbers
-blockNumbers s (suc n) requests times replies numbers =
-    numberAt s 0 requests times replies
-    ∷ blockNumbers s n (drop packetLength requests) (drop 2 times) (drop packetLength replies) (drop 1 numbers)
+blockNumbers s n requests times replies numbers = replaced 1 numbers (λ k. numberAt s k requests times replies ∷ []) n
 
 -- the settings that C hands in one by one; synchronised is no at 0, else yes
 abbrev pub settingsOf : (synchronised leap : ℕ) → ℤ → (identifier reference : ℕ) → Settings

@@ -4,7 +4,7 @@ use denote.Ref.{now}
 use lib.ListN.{set}
 use native.Mathlib.Omega.{arith}
 use borrow.Author.Needs.{needs}
-use Rattle.reply_block.proofs.Block.{put-back, put-number}
+use Rattle.reply_block.proofs.Block.{put-reply, put-number}
 use Rattle.reply_block.proofs.reply_at.Statement.{statement}
 use Rattle.reply_block.proofs.reply_at.Tie as tie
 
@@ -29,7 +29,7 @@ returns c =
     let call = c .before .before in
     let a = call .before .before .before .before .before .before .before .before .before .args in
     let e = call .reply-number .ensures in (
-      put-back (a .settings) (a .i) (now (a .requests)) (now (a .times)) (now (a .replies)) (e .1),
+      put-reply (a .settings) (a .i) (now (a .requests)) (now (a .times)) (now (a .replies)) (e .1),
       ap (set (now (a .numbers)) (a .i)) (put-number (a .settings) (a .i) (now (a .requests)) (now (a .times)) (now (a .replies)) (e .0)),
     )
 
