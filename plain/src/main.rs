@@ -3,23 +3,20 @@
 //! Both sides run over the same blocks of packets; their outputs are compared octet for octet and
 //! their times are printed as tables. A difference ends the program with status 1.
 //!
-//! Run in this folder, with the folder of libreply_block.a and libclient_block.a in ARCHIVES and
-//! the number of rounds as the only argument (60 if there is none):
+//! `tests/benchmark` builds and runs it. By itself it is run in this folder, with the folder of
+//! libreply_block.a and libclient_block.a in ARCHIVES and the number of rounds as the only argument
+//! (60 if there is none):
 //!
-//!     ARCHIVES=../target/staticlib cargo run --release --offline -- 60
-//!
-//! With --no-default-features only libreply_block.a is needed and only replies are measured.
+//!     ARCHIVES=$PWD/../target/staticlib cargo run --release --offline -- 60
 
 #![deny(unsafe_code)]
 
 mod harness {
     pub mod archive;
-    #[cfg(feature = "client")]
     pub mod client_cells;
     pub mod difference;
     pub mod generator;
     pub mod measure;
-    #[cfg(feature = "client")]
     pub mod replies;
     pub mod reply_cells;
     pub mod requests;
@@ -29,7 +26,7 @@ mod harness {
 use std::process::ExitCode;
 
 use harness::difference::Difference;
-use harness::reply_cells;
+use harness::{client_cells, reply_cells};
 
 const SIZES: [usize; 3] = [64, 4096, 262_144];
 const ROUNDS: usize = 60;
@@ -65,19 +62,8 @@ fn run(rounds: usize) -> Result<(), Difference> {
     );
     let reply_ns = reply_cells::table(true, &SIZES, rounds, LOAD_SIZE)?;
     reply_cells::table(false, &SIZES, rounds, LOAD_SIZE)?;
-    client_calls(rounds)?;
+    client_cells::table(&SIZES, rounds)?;
     print_load(reply_ns);
-    Ok(())
-}
-
-#[cfg(feature = "client")]
-fn client_calls(rounds: usize) -> Result<(), Difference> {
-    harness::client_cells::table(&SIZES, rounds)
-}
-
-#[cfg(not(feature = "client"))]
-fn client_calls(_rounds: usize) -> Result<(), Difference> {
-    println!("The client's calls are not measured: built without the feature client.\n");
     Ok(())
 }
 
