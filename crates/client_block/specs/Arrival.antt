@@ -14,7 +14,7 @@ use Rattle.client.specs.declared.Phase.the-variants.{Waiting}
 use Rattle.client.specs.declared.Client.{Client}
 use Rattle.client.specs.declared.Arrived.{Arrived}
 use Rattle.client.specs.Arrival.{arrived}
-use Rattle.client_block.specs.Sum.{sumOver, wrapped}
+use Rattle.packet_block.specs.Sum.{sumOver, wrapped}
 use Rattle.client_block.specs.Digest.{digest}
 
 -- how many arrive

@@ -13,7 +13,7 @@ use Rattle.client.specs.declared.CallAnswer.the-variants.{Refused, Done}
 use Rattle.client.specs.declared.Called.{Called}
 use Rattle.client.specs.Record.{fresh}
 use Rattle.client.specs.Ask.{afterAsk, afterAskBuffer}
-use Rattle.client_block.specs.Sum.{sumOver, wrapped}
+use Rattle.packet_block.specs.Sum.{sumOver, wrapped}
 use Rattle.client_block.specs.Digest.{digest}
 
 -- how many ask: each takes two times and has 48 octets for its request

@@ -1,7 +1,7 @@
 // Packets that arrive.
 ghost use mathlib.Core.Path.{_≡_};
 ghost use Prim.Native.Nat.{_<_};
-ghost use Rattle.client_block.specs.Sum.{wrapped};
+ghost use Rattle.packet_block.specs.Sum.{wrapped};
 ghost use Rattle.client_block.specs.Arrival.{arrivalCount, waitingClient, isAlternate, arrivalSum, arrivedSum, arrivalAt, blockArrival};
 use crate::digest::digest;
 use client::Arrived;

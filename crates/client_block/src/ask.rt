@@ -4,7 +4,7 @@ ghost use Prim.Native.Nat.{_+_, _*_, _<_};
 ghost use mathlib.Core.List.{_++_};
 ghost use lib.ListN.{take, drop};
 ghost use Rattle.packet.specs.Packet.{packetLength};
-ghost use Rattle.client_block.specs.Sum.{wrapped};
+ghost use Rattle.packet_block.specs.Sum.{wrapped};
 ghost use Rattle.client_block.specs.Ask.{askCount, callNumber, calledSum, askAt, requestAt, blockAsk, blockRequests};
 use crate::digest::digest;
 use client::CallAnswer;

@@ -1,7 +1,7 @@
 // The digest of a client's record.
 ghost use mathlib.Core.Path.{_≡_};
 ghost use mathlib.Core.Bool.{cond};
-ghost use Rattle.client_block.specs.Sum.{wrapped};
+ghost use Rattle.packet_block.specs.Sum.{wrapped};
 ghost use Rattle.client_block.specs.Digest.{phaseNumber, smallSum, digest};
 use client::Client;
 use client::Phase;

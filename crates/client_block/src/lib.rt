@@ -1,7 +1,5 @@
-// Packets that stand one after another, 48 octets each: read, written, asked with, or arriving, all in one call from C. A call's result is a count or one number
-// that depends on everything that it did.
+// Clients that ask, and packets that arrive at a client, many in one call from C. The packets stand one after another, 48 octets each, and a call's result is a sum
+// of what each of them gave.
 pub mod arrival;
 pub mod ask;
 mod digest;
-pub mod read;
-pub mod write;

@@ -7,7 +7,7 @@ use denote.Ref.{now}
 use Rattle.arithmetic.proofs.Parts.{same-part}
 use Rattle.timestamp.specs.Timestamp.{timestamp}
 use Rattle.client.specs.Arrival.{arrived}
-use Rattle.client_block.specs.Sum.{wrapped}
+use Rattle.packet_block.specs.Sum.{wrapped}
 use Rattle.client_block.specs.Arrival.{arrivedSum}
 use Rattle.client_block.proofs.arrival.arrival_at.Statement.{statement}
 use Rattle.client_block.proofs.arrival.arrival_at.Tie as tie

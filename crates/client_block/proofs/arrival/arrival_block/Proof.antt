@@ -4,9 +4,9 @@ use native.Mathlib.Omega.{arith}
 use mathlib.Core.Path.{_≡_, refl, ap, _∙_}
 use denote.Ref.{now}
 use borrow.Author.Needs.{needs}
-use Rattle.client_block.specs.Sum.{sumOver, wrapped}
+use Rattle.packet_block.specs.Sum.{sumOver, wrapped}
 use Rattle.client_block.specs.Arrival.{arrivalCount, arrivalAt, blockArrival}
-use Rattle.client_block.proofs.Sum.{next-sum}
+use Rattle.packet_block.proofs.Sum.{next-sum}
 use Rattle.client_block.proofs.arrival.arrival_block.Statement.{statement}
 use Rattle.client_block.proofs.arrival.arrival_block.Tie as tie
 

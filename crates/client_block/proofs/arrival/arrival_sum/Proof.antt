@@ -7,9 +7,9 @@ use mir.Syntax.{w64}
 use mir.Val.{SFits}
 use mir.Facts.{toZ-ofZ}
 use Rattle.arithmetic.specs.TwosComplement.{bits}
-use Rattle.client_block.specs.Sum.{wrapped}
+use Rattle.packet_block.specs.Sum.{wrapped}
 use Rattle.client_block.specs.Arrival.{arrivalSum}
-use Rattle.client_block.proofs.Sum.{one-more}
+use Rattle.packet_block.proofs.Sum.{one-more}
 use Rattle.client_block.proofs.arrival.arrival_sum.Statement.{statement}
 use Rattle.client_block.proofs.arrival.arrival_sum.Tie as tie
 

@@ -8,7 +8,7 @@ use denote.Ref.{now}
 use Rattle.arithmetic.proofs.Parts.{same-part, put-back}
 use Rattle.client.specs.Record.{fresh}
 use Rattle.client.specs.Ask.{afterAsk, afterAskBuffer}
-use Rattle.client_block.specs.Sum.{wrapped}
+use Rattle.packet_block.specs.Sum.{wrapped}
 use Rattle.client_block.specs.Ask.{clockAt, tokenAt, calledSum}
 use Rattle.client_block.proofs.ask.ask_at.Statement.{statement}
 use Rattle.client_block.proofs.ask.ask_at.Tie as tie

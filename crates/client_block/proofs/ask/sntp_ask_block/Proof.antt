@@ -5,9 +5,9 @@ use mathlib.Core.Path.{_≡_, refl, ap, _∙_}
 use denote.Ref.{now}
 use lib.ListN.{length}
 use borrow.Author.Needs.{needs}
-use Rattle.client_block.specs.Sum.{sumOver, wrapped}
+use Rattle.packet_block.specs.Sum.{sumOver, wrapped}
 use Rattle.client_block.specs.Ask.{askCount, askAt, blockAsk, blockRequests}
-use Rattle.client_block.proofs.Sum.{next-sum}
+use Rattle.packet_block.proofs.Sum.{next-sum}
 use Rattle.client_block.proofs.Packets.{ask-laws, next-request, same-ask}
 use Rattle.client_block.proofs.ask.sntp_ask_block.Statement.{statement}
 use Rattle.client_block.proofs.ask.sntp_ask_block.Tie as tie

@@ -3,9 +3,9 @@ use borrow.Author.Needs.{needs}
 use mathlib.Core.Path.{_≡_, ap, _∙_}
 use Prim.Native.Nat.{ℕ, _+_}
 use native.Mathlib.Omega.{arith}
-use Rattle.client_block.specs.Sum.{wrapped}
+use Rattle.packet_block.specs.Sum.{wrapped}
 use Rattle.client_block.specs.Digest.{phaseNumber, smallSum, digest}
-use Rattle.client_block.proofs.Sum.{one-more}
+use Rattle.packet_block.proofs.Sum.{one-more}
 use Rattle.client_block.proofs.digest.digest.Statement.{statement}
 use Rattle.client_block.proofs.digest.digest.Tie as tie
 

@@ -1,15 +1,15 @@
--- `client_block::read::sntp_read_block` meets its contract: after i turns i packets are summed. Assumes nothing.
+-- `packet_block::read::sntp_read_block` meets its contract: after i turns i packets are summed. Assumes nothing.
 use Prim.Native.Nat.{_-_, _≤_}
 use native.Mathlib.Omega.{arith}
 use mathlib.Core.Path.{_≡_, refl, ap, _∙_}
 use denote.Ref.{now}
 use borrow.Author.Needs.{needs}
 use Rattle.packet.specs.Packet.{packetCount}
-use Rattle.client_block.specs.Sum.{sumOver, wrapped}
-use Rattle.client_block.specs.Read.{readAt, blockRead}
-use Rattle.client_block.proofs.Sum.{next-sum}
-use Rattle.client_block.proofs.read.sntp_read_block.Statement.{statement}
-use Rattle.client_block.proofs.read.sntp_read_block.Tie as tie
+use Rattle.packet_block.specs.Sum.{sumOver, wrapped}
+use Rattle.packet_block.specs.Read.{readAt, blockRead}
+use Rattle.packet_block.proofs.Sum.{next-sum}
+use Rattle.packet_block.proofs.read.sntp_read_block.Statement.{statement}
+use Rattle.packet_block.proofs.read.sntp_read_block.Tie as tie
 
 abbrev Inv-loop : tie.InvT-loop
 Inv-loop packets count sum₀ i₀ sum i = (i ≤ count) × (count ≡ packetCount packets) × (sum ≡ wrapped (sumOver (readAt packets) i))

@@ -1,9 +1,9 @@
--- `client_block::read::header_sum` meets its contract: the signed fields by their bits. Assumes nothing.
+-- `packet_block::read::header_sum` meets its contract: the signed fields by their bits. Assumes nothing.
 use borrow.Author.Needs.{needs}
 use mir.Syntax.{w8, w32}
 use mir.ValLaws.{toZ-ofZ}
-use Rattle.client_block.proofs.read.header_sum.Statement.{statement}
-use Rattle.client_block.proofs.read.header_sum.Tie as tie
+use Rattle.packet_block.proofs.read.header_sum.Statement.{statement}
+use Rattle.packet_block.proofs.read.header_sum.Tie as tie
 
 returns : tie.Need-returns
 returns c =

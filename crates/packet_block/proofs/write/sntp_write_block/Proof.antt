@@ -1,8 +1,8 @@
--- `client_block::write::sntp_write_block` meets its contract: the signed fields are read back from their bits. Assumes nothing.
+-- `packet_block::write::sntp_write_block` meets its contract: the signed fields are read back from their bits. Assumes nothing.
 use mir.Facts.{toZ-ofZ}
 use borrow.Author.Needs.{needs}
-use Rattle.client_block.proofs.write.sntp_write_block.Statement.{statement}
-use Rattle.client_block.proofs.write.sntp_write_block.Tie as tie
+use Rattle.packet_block.proofs.write.sntp_write_block.Statement.{statement}
+use Rattle.packet_block.proofs.write.sntp_write_block.Tie as tie
 
 returns : tie.Need-returns
 returns c =

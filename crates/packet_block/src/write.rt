@@ -4,7 +4,7 @@ ghost use Prim.Native.Nat.{_+_, _*_, _<_};
 ghost use mathlib.Core.List.{_++_};
 ghost use lib.ListN.{take, drop};
 ghost use Rattle.packet.specs.Packet.{packetLength};
-ghost use Rattle.client_block.specs.Write.{writeCount, fieldsWith, withTransmit, writtenAt, blockWritten};
+ghost use Rattle.packet_block.specs.Write.{writeCount, fieldsWith, withTransmit, writtenAt, blockWritten};
 use packet::Fields;
 use slices::least;
 use timestamp::Timestamp;

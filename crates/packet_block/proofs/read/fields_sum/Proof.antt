@@ -1,12 +1,12 @@
--- `client_block::read::fields_sum` meets its contract: one sum that wraps after another. Assumes nothing.
+-- `packet_block::read::fields_sum` meets its contract: one sum that wraps after another. Assumes nothing.
 use borrow.Author.Needs.{needs}
 use mathlib.Core.Path.{ap, _∙_}
 use Prim.Native.Nat.{_+_}
-use Rattle.client_block.specs.Sum.{wrapped}
-use Rattle.client_block.specs.Read.{headerSum}
-use Rattle.client_block.proofs.Sum.{one-more}
-use Rattle.client_block.proofs.read.fields_sum.Statement.{statement}
-use Rattle.client_block.proofs.read.fields_sum.Tie as tie
+use Rattle.packet_block.specs.Sum.{wrapped}
+use Rattle.packet_block.specs.Read.{headerSum}
+use Rattle.packet_block.proofs.Sum.{one-more}
+use Rattle.packet_block.proofs.read.fields_sum.Statement.{statement}
+use Rattle.packet_block.proofs.read.fields_sum.Tie as tie
 
 returns : tie.Need-returns
 returns c =

@@ -5,7 +5,7 @@ use Rattle.arithmetic.specs.TwosComplement.{bits}
 use Rattle.packet.specs.declared.Fields.{Fields}
 use Rattle.packet.specs.declared.FieldsAnswer.{FieldsAnswer}
 use Rattle.packet.specs.Packet.{packetCount, packetAt, readAnswer}
-use Rattle.client_block.specs.Sum.{sumOver, wrapped}
+use Rattle.packet_block.specs.Sum.{sumOver, wrapped}
 
 -- the nine fields before the timestamps; precision and root delay by their bits
 abbrev pub headerSum : Fields → ℕ

@@ -1,11 +1,11 @@
--- `client_block::read::read_sum` meets its contract: a refusal's number is small. Assumes nothing.
+-- `packet_block::read::read_sum` meets its contract: a refusal's number is small. Assumes nothing.
 use borrow.Author.Needs.{needs}
 use mathlib.Core.Path.{_≡_, sym, ap, _∙_}
 use native.Mathlib.Omega.{arith}
-use Rattle.client_block.specs.Sum.{wrapped}
-use Rattle.client_block.specs.Read.{readSum}
-use Rattle.client_block.proofs.read.read_sum.Statement.{statement}
-use Rattle.client_block.proofs.read.read_sum.Tie as tie
+use Rattle.packet_block.specs.Sum.{wrapped}
+use Rattle.packet_block.specs.Read.{readSum}
+use Rattle.packet_block.proofs.read.read_sum.Statement.{statement}
+use Rattle.packet_block.proofs.read.read_sum.Tie as tie
 
 returns : tie.Need-returns
 returns c =

@@ -2,8 +2,8 @@
 ghost use mathlib.Core.Path.{_≡_};
 ghost use Prim.Native.Nat.{_<_};
 ghost use Rattle.packet.specs.Packet.{packetCount};
-ghost use Rattle.client_block.specs.Sum.{wrapped};
-ghost use Rattle.client_block.specs.Read.{headerSum, fieldsSum, readSum, readAt, blockRead};
+ghost use Rattle.packet_block.specs.Sum.{wrapped};
+ghost use Rattle.packet_block.specs.Read.{headerSum, fieldsSum, readSum, readAt, blockRead};
 use packet::Fields;
 use packet::FieldsAnswer;
 use std::num::wrapping_add_u64;

@@ -3,7 +3,7 @@ use Prim.Native.Nat.{ℕ, _+_, _^_}
 use native.Mathlib.Nat.{mod-add-mod, add-mod}
 use native.Mathlib.Numerals.{add-one}
 use mathlib.Core.Path.{_≡_, sym, _∙_}
-use Rattle.client_block.specs.Sum.{sumOver, wrapped}
+use Rattle.packet_block.specs.Sum.{sumOver, wrapped}
 
 module _ (a b : ℕ) where
   -- b is added to what is left of a

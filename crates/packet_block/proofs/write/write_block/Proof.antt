@@ -1,14 +1,14 @@
--- `client_block::write::write_block` meets its contract: after i turns i packets are written. Assumes nothing.
+-- `packet_block::write::write_block` meets its contract: after i turns i packets are written. Assumes nothing.
 use Prim.Native.Nat.{_-_, _≤_}
 use native.Mathlib.Omega.{arith}
 use mathlib.Core.Path.{_≡_, refl, ap, _∙_}
 use denote.Ref.{now}
 use lib.ListN.{length}
 use borrow.Author.Needs.{needs}
-use Rattle.client_block.specs.Write.{withTransmit, writeCount, blockWritten}
-use Rattle.client_block.proofs.Packets.{write-laws, next-written}
-use Rattle.client_block.proofs.write.write_block.Statement.{statement}
-use Rattle.client_block.proofs.write.write_block.Tie as tie
+use Rattle.packet_block.specs.Write.{withTransmit, writeCount, blockWritten}
+use Rattle.packet_block.proofs.Packets.{write-laws, next-written}
+use Rattle.packet_block.proofs.write.write_block.Statement.{statement}
+use Rattle.packet_block.proofs.write.write_block.Tie as tie
 
 abbrev Inv-loop : tie.InvT-loop
 Inv-loop fields transmits packets₀ count i₀ packets i =

@@ -1,14 +1,14 @@
--- `client_block::read::read_at` meets its contract: the part that was lent is the packet of its place. Assumes nothing.
+-- `packet_block::read::read_at` meets its contract: the part that was lent is the packet of its place. Assumes nothing.
 use borrow.Author.Needs.{needs}
 use mathlib.Core.Path.{ap, _∙_}
 use Prim.Native.Nat.{_*_}
 use denote.Ref.{now}
 use Rattle.arithmetic.proofs.Parts.{same-part}
 use Rattle.packet.specs.Packet.{readAnswer}
-use Rattle.client_block.specs.Sum.{wrapped}
-use Rattle.client_block.specs.Read.{readSum}
-use Rattle.client_block.proofs.read.read_at.Statement.{statement}
-use Rattle.client_block.proofs.read.read_at.Tie as tie
+use Rattle.packet_block.specs.Sum.{wrapped}
+use Rattle.packet_block.specs.Read.{readSum}
+use Rattle.packet_block.proofs.read.read_at.Statement.{statement}
+use Rattle.packet_block.proofs.read.read_at.Tie as tie
 
 returns : tie.Need-returns
 returns c =

@@ -1,13 +1,13 @@
--- `client_block::write::write_at` meets its contract: the part that was lent is put back. Assumes nothing.
+-- `packet_block::write::write_at` meets its contract: the part that was lent is put back. Assumes nothing.
 use borrow.Author.Needs.{needs}
 use Prim.Native.Nat.{_*_}
 use lib.ListN.{getD}
 use denote.Ref.{now}
 use Rattle.arithmetic.proofs.Parts.{put-back}
 use Rattle.packet.specs.Packet.{written}
-use Rattle.client_block.specs.Write.{withTransmit}
-use Rattle.client_block.proofs.write.write_at.Statement.{statement}
-use Rattle.client_block.proofs.write.write_at.Tie as tie
+use Rattle.packet_block.specs.Write.{withTransmit}
+use Rattle.packet_block.proofs.write.write_at.Statement.{statement}
+use Rattle.packet_block.proofs.write.write_at.Tie as tie
 
 returns : tie.Need-returns
 returns c =
