@@ -46,9 +46,9 @@ abbrev pub arrivedSum : Arrived → ℕ
 arrivedSum r = arrivalSum (r .answer) + digest (r .client)
 
 -- what the arrival of place k gives
-abbrev pub arrivalAt : Client → Bool → (arrivals packets : List ℕ) → ℕ → ℕ
-arrivalAt c alternate arrivals packets k = arrivedSum (arrived c (packetAt k packets) (timestamp (getD arrivals k 0)) alternate)
+abbrev pub arrivalSumAt : Client → Bool → (arrivals packets : List ℕ) → ℕ → ℕ
+arrivalSumAt c alternate arrivals packets k = arrivedSum (arrived c (packetAt k packets) (timestamp (getD arrivals k 0)) alternate)
 
 -- over all that arrive
 unfoldable pub blockArrival : Client → Bool → (arrivals packets : List ℕ) → ℕ
-blockArrival c alternate arrivals packets = wrapped (sumOver (arrivalAt c alternate arrivals packets) (arrivalCount arrivals packets))
+blockArrival c alternate arrivals packets = wrapped (sumOver (arrivalSumAt c alternate arrivals packets) (arrivalCount arrivals packets))

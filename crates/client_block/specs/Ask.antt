@@ -36,8 +36,8 @@ abbrev pub calledSum : Called → ℕ
 calledSum r = callNumber (r .answer) + digest (r .client)
 
 -- what the ask of place k gives, and that place of the packets after it
-abbrev pub askAt : (version uptime : ℕ) → (times packets : List ℕ) → ℕ → ℕ
-askAt version uptime times packets k =
+abbrev pub askSumAt : (version uptime : ℕ) → (times packets : List ℕ) → ℕ → ℕ
+askSumAt version uptime times packets k =
     calledSum (afterAsk fresh (length (packetAt k packets)) version (clockAt k times) (tokenAt k times) uptime)
 
 abbrev pub requestAt : (version uptime : ℕ) → (times packets : List ℕ) → ℕ → List ℕ
@@ -45,7 +45,7 @@ requestAt version uptime times packets k = afterAskBuffer fresh (packetAt k pack
 
 -- over all that ask
 unfoldable pub blockAsk : (version uptime : ℕ) → (times packets : List ℕ) → ℕ
-blockAsk version uptime times packets = wrapped (sumOver (askAt version uptime times packets) (askCount times packets))
+blockAsk version uptime times packets = wrapped (sumOver (askSumAt version uptime times packets) (askCount times packets))
 
 -- the packets once n have asked
 unfoldable pub blockRequests : (version uptime n : ℕ) → (times packets : List ℕ) → List ℕ

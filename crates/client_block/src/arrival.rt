@@ -2,7 +2,7 @@
 ghost use mathlib.Core.Path.{_≡_};
 ghost use Prim.Native.Nat.{_<_};
 ghost use Rattle.packet_block.specs.Sum.{wrapped};
-ghost use Rattle.client_block.specs.Arrival.{arrivalCount, waitingClient, isAlternate, arrivalSum, arrivedSum, arrivalAt, blockArrival};
+ghost use Rattle.client_block.specs.Arrival.{arrivalCount, waitingClient, isAlternate, arrivalSum, arrivedSum, arrivalSumAt, blockArrival};
 use crate::digest::digest;
 use client::Arrived;
 use client::Client;
@@ -39,7 +39,7 @@ fn arrived_sum(arrived: Arrived) -> u64
 // The arrival of the packet at place i.
 fn arrival_at(client: Client, alternate: bool, i: usize, arrivals: &[u64], packets: &[u8]) -> u64
     requires { ⌜ i < arrivalCount (now arrivals) (now packets) ⌝ }
-    ensures { λ r. ⌜ r ≡ wrapped (arrivalAt client alternate (now (arrivals .entry)) (now (packets .entry)) i) ⌝ }
+    ensures { λ r. ⌜ r ≡ wrapped (arrivalSumAt client alternate (now (arrivals .entry)) (now (packets .entry)) i) ⌝ }
 {
     let at = packet::LENGTH * i;
     let end = at + packet::LENGTH;

@@ -5,7 +5,7 @@ ghost use mathlib.Core.List.{_++_};
 ghost use lib.ListN.{take, drop};
 ghost use Rattle.packet.specs.Packet.{packetLength};
 ghost use Rattle.packet_block.specs.Sum.{wrapped};
-ghost use Rattle.client_block.specs.Ask.{askCount, callNumber, calledSum, askAt, requestAt, blockAsk, blockRequests};
+ghost use Rattle.client_block.specs.Ask.{askCount, callNumber, calledSum, askSumAt, requestAt, blockAsk, blockRequests};
 use crate::digest::digest;
 use client::CallAnswer;
 use client::Called;
@@ -35,7 +35,7 @@ fn called_sum(called: Called) -> u64
 // The ask of place i, into that place of the packets.
 fn ask_at(version: u8, uptime: u64, i: usize, times: &[u64], packets: &mut [u8]) -> u64
     requires { ⌜ i < askCount (now times) (now packets) ⌝ }
-    ensures sum { λ r. ⌜ r ≡ wrapped (askAt version uptime (now (times .entry)) (now (packets .entry)) i) ⌝ }
+    ensures sum { λ r. ⌜ r ≡ wrapped (askSumAt version uptime (now (times .entry)) (now (packets .entry)) i) ⌝ }
     ensures packets { λ _. ⌜ now (packets .exit) ≡ take (packetLength * i) (now (packets .entry)) ++ requestAt version uptime (now (times .entry)) (now (packets .entry)) i ++ drop (packetLength * i + packetLength) (now (packets .entry)) ⌝ }
 {
     let at = packet::LENGTH * i;

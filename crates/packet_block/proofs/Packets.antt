@@ -4,7 +4,7 @@ use native.Mathlib.Omega.{arith}
 use mathlib.Core.Path.{_≡_}
 use mathlib.Core.List.{List, _++_}
 use lib.ListN.{length, take, drop, getD, length-append, length-drop}
-use Rattle.arithmetic.specs.Parts.{Each, Replaced}
+use Rattle.arithmetic.specs.Parts.{Each}
 use Rattle.arithmetic.proofs.Octets.{length-part}
 use Rattle.arithmetic.proofs.Parts.{parts, next-made}
 use Rattle.ordered_tests.specs.Tests.{Given, refused, answered, given, keptOf}
@@ -28,9 +28,6 @@ module _ (fields : ℕ → Fields) (transmits packets : List ℕ) (n : ℕ) wher
       let f = fields (getD transmits k 0) in
       length-kept (given (writeTests (packetAt k packets) f)) _ (octetsOf f) (length-octetsOf f) (length-at k packets (omega arith))
 
-  pub write-laws : n ≤ writeCount transmits packets → Replaced packetLength packets (writtenAt fields transmits packets) n
-  write-laws room = parts 48 packets (writtenAt fields transmits packets) n (each-written room) (omega arith)
-
   -- one more, where the first n stand in held
   pub next-written : n ≤ writeCount transmits packets → {held after : List ℕ} → held ≡ blockWritten fields n transmits packets
       → after ≡ take (packetLength * n) held ++ writtenAt fields transmits held n ++ drop (packetLength * n + packetLength) held
@@ -38,5 +35,5 @@ module _ (fields : ℕ → Fields) (transmits packets : List ℕ) (n : ℕ) wher
   unfolding blockWritten
   next-written room h e = next-made 48 packets (λ k b. written b (fields (getD transmits k 0))) n (each-written room) h e
 
-pub writes : WriteLaws
-writes = write-laws
+pub write-laws : WriteLaws
+write-laws fields transmits packets n room = parts 48 packets (writtenAt fields transmits packets) n (each-written fields transmits packets n room) (omega arith)

@@ -22,9 +22,9 @@ abbrev pub readSum : FieldsAnswer → ℕ
 readSum (FieldsAnswer.Refused n) = n
 readSum (FieldsAnswer.Fields f) = fieldsSum f
 
-abbrev pub readAt : List ℕ → ℕ → ℕ
-readAt packets k = readSum (readAnswer (packetAt k packets))
+abbrev pub readSumAt : List ℕ → ℕ → ℕ
+readSumAt packets k = readSum (readAnswer (packetAt k packets))
 
 -- over all packets
 unfoldable pub blockRead : List ℕ → ℕ
-blockRead packets = wrapped (sumOver (readAt packets) (packetCount packets))
+blockRead packets = wrapped (sumOver (readSumAt packets) (packetCount packets))

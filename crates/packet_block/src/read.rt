@@ -3,7 +3,7 @@ ghost use mathlib.Core.Path.{_≡_};
 ghost use Prim.Native.Nat.{_<_};
 ghost use Rattle.packet.specs.Packet.{packetCount};
 ghost use Rattle.packet_block.specs.Sum.{wrapped};
-ghost use Rattle.packet_block.specs.Read.{headerSum, fieldsSum, readSum, readAt, blockRead};
+ghost use Rattle.packet_block.specs.Read.{headerSum, fieldsSum, readSum, readSumAt, blockRead};
 use packet::Fields;
 use packet::FieldsAnswer;
 use std::num::wrapping_add_u64;
@@ -46,7 +46,7 @@ fn read_sum(answer: FieldsAnswer) -> u64
 // What reading the packet at place i gives.
 fn read_at(i: usize, packets: &[u8]) -> u64
     requires { ⌜ i < packetCount (now packets) ⌝ }
-    ensures { λ r. ⌜ r ≡ wrapped (readAt (now (packets .entry)) i) ⌝ }
+    ensures { λ r. ⌜ r ≡ wrapped (readSumAt (now (packets .entry)) i) ⌝ }
 {
     let at = packet::LENGTH * i;
     let end = at + packet::LENGTH;

@@ -1,9 +1,9 @@
 -- `client_block::arrival::arrival_at` meets its contract: the part that was lent is the packet of its place. Assumes nothing.
-use borrow.Author.Needs.{needs}
-use mathlib.Core.Path.{ap, _∙_}
 use Prim.Native.Nat.{_*_}
-use lib.ListN.{getD}
+use mathlib.Core.Path.{ap, _∙_}
 use denote.Ref.{now}
+use lib.ListN.{getD}
+use borrow.Author.Needs.{needs}
 use Rattle.arithmetic.proofs.Parts.{same-part}
 use Rattle.timestamp.specs.Timestamp.{timestamp}
 use Rattle.client.specs.Arrival.{arrived}

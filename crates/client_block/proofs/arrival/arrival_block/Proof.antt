@@ -5,42 +5,27 @@ use mathlib.Core.Path.{_≡_, refl, ap, _∙_}
 use denote.Ref.{now}
 use borrow.Author.Needs.{needs}
 use Rattle.packet_block.specs.Sum.{sumOver, wrapped}
-use Rattle.client_block.specs.Arrival.{arrivalCount, arrivalAt, blockArrival}
 use Rattle.packet_block.proofs.Sum.{next-sum}
+use Rattle.client_block.specs.Arrival.{arrivalCount, arrivalSumAt, blockArrival}
 use Rattle.client_block.proofs.arrival.arrival_block.Statement.{statement}
 use Rattle.client_block.proofs.arrival.arrival_block.Tie as tie
 
 abbrev Inv-loop : tie.InvT-loop
 Inv-loop client alternate arrivals packets count sum₀ i₀ sum i =
-    (i ≤ count) × (count ≡ arrivalCount arrivals packets) × (sum ≡ wrapped (sumOver (arrivalAt client alternate arrivals packets) i))
+    (i ≤ count) × (count ≡ arrivalCount arrivals packets) × (sum ≡ wrapped (sumOver (arrivalSumAt client alternate arrivals packets) i))
 
 abbrev μ-loop : tie.MeasureT-loop
 μ-loop client alternate arrivals packets count sum₀ i₀ sum i = count - i
-
-least-requires : tie.Need-least-requires Inv-loop μ-loop
-least-requires c κs = search needs
 
 loop-holds : tie.Need-loop-holds Inv-loop μ-loop
 unfolding sumOver
 loop-holds c = (search needs, c .least .ensures, refl)
 
-arrival-at-requires : tie.Need-arrival-at-requires Inv-loop μ-loop
-arrival-at-requires c κs = omega arith
-
-wrapping-add-u64-requires : tie.Need-wrapping-add-u64-requires Inv-loop μ-loop
-wrapping-add-u64-requires c κs = search needs
-
-add-i : tie.Need-add-i Inv-loop μ-loop
-add-i c = search needs
-
-loop-less : tie.Need-loop-less Inv-loop μ-loop
-loop-less c = omega arith
-
 loop-again : tie.Need-loop-again Inv-loop μ-loop
 loop-again c =
     let l = c .before .before .before in
     let a = l .before .before .before .before .args in
-    let at = arrivalAt (a .client) (a .alternate) (now (a .arrivals)) (now (a .packets)) in
+    let at = arrivalSumAt (a .client) (a .alternate) (now (a .arrivals)) (now (a .packets)) in
     (search needs, l .loop .inv .1, next-sum at (l .loop .i) (l .loop .inv .2) (c .before .arrival-at .ensures) (c .wrapping-add-u64 .ensures))
 
 returns : tie.Need-returns Inv-loop μ-loop
@@ -57,11 +42,11 @@ arrival-block-spec =
     (tie.spec
     Inv-loop
     μ-loop
-    least-requires
+    (λ c κs. search needs)
     loop-holds
-    arrival-at-requires
-    wrapping-add-u64-requires
-    add-i
-    loop-less
+    (λ c κs. omega arith)
+    (λ c κs. search needs)
+    (λ c. search needs)
+    (λ c. omega arith)
     loop-again
     returns)

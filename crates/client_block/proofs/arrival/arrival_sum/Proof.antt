@@ -1,15 +1,15 @@
 -- `client_block::arrival::arrival_sum` meets its contract: in each case of the answer. Assumes nothing.
-use borrow.Author.Needs.{needs}
-use mathlib.Core.Path.{_≡_, sym, ap, _∙_}
 use Prim.Native.Nat.{_+_}
 use native.Mathlib.Omega.{arith}
+use mathlib.Core.Path.{_≡_, sym, ap, _∙_}
 use mir.Syntax.{w64}
 use mir.Val.{SFits}
 use mir.Facts.{toZ-ofZ}
+use borrow.Author.Needs.{needs}
 use Rattle.arithmetic.specs.TwosComplement.{bits}
 use Rattle.packet_block.specs.Sum.{wrapped}
-use Rattle.client_block.specs.Arrival.{arrivalSum}
 use Rattle.packet_block.proofs.Sum.{one-more}
+use Rattle.client_block.specs.Arrival.{arrivalSum}
 use Rattle.client_block.proofs.arrival.arrival_sum.Statement.{statement}
 use Rattle.client_block.proofs.arrival.arrival_sum.Tie as tie
 

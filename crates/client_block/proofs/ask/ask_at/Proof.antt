@@ -1,11 +1,11 @@
 -- `client_block::ask::ask_at` meets its contract: the part that was lent is put back. Assumes nothing.
-use borrow.Author.Needs.{needs}
-use mathlib.Core.Path.{_≡_, ap, _∙_}
-use lib.ListN.{length}
-use Rattle.packet.specs.Packet.{packetAt}
 use Prim.Native.Nat.{_*_}
+use mathlib.Core.Path.{_≡_, ap, _∙_}
 use denote.Ref.{now}
+use lib.ListN.{length}
+use borrow.Author.Needs.{needs}
 use Rattle.arithmetic.proofs.Parts.{same-part, put-back}
+use Rattle.packet.specs.Packet.{packetAt}
 use Rattle.client.specs.Record.{fresh}
 use Rattle.client.specs.Ask.{afterAsk, afterAskBuffer}
 use Rattle.packet_block.specs.Sum.{wrapped}

@@ -6,8 +6,8 @@ use denote.Ref.{now}
 use lib.ListN.{length}
 use borrow.Author.Needs.{needs}
 use Rattle.packet_block.specs.Sum.{sumOver, wrapped}
-use Rattle.client_block.specs.Ask.{askCount, askAt, blockAsk, blockRequests}
 use Rattle.packet_block.proofs.Sum.{next-sum}
+use Rattle.client_block.specs.Ask.{askCount, askSumAt, blockAsk, blockRequests}
 use Rattle.client_block.proofs.Packets.{ask-laws, next-request, same-ask}
 use Rattle.client_block.proofs.ask.sntp_ask_block.Statement.{statement}
 use Rattle.client_block.proofs.ask.sntp_ask_block.Tie as tie
@@ -15,13 +15,10 @@ use Rattle.client_block.proofs.ask.sntp_ask_block.Tie as tie
 abbrev Inv-loop : tie.InvT-loop
 Inv-loop version uptime times packets₀ count sum₀ i₀ packets sum i =
     (i ≤ count) × (count ≡ askCount times packets₀)
-    × (sum ≡ wrapped (sumOver (askAt version uptime times packets₀) i)) × (packets ≡ blockRequests version uptime i times packets₀)
+    × (sum ≡ wrapped (sumOver (askSumAt version uptime times packets₀) i)) × (packets ≡ blockRequests version uptime i times packets₀)
 
 abbrev μ-loop : tie.MeasureT-loop
 μ-loop version uptime times packets₀ count sum₀ i₀ packets sum i = count - i
-
-least-requires : tie.Need-least-requires Inv-loop μ-loop
-least-requires c κs = search needs
 
 loop-holds : tie.Need-loop-holds Inv-loop μ-loop
 unfolding sumOver blockRequests
@@ -39,15 +36,6 @@ kept l =
 ask-at-requires : tie.Need-ask-at-requires Inv-loop μ-loop
 ask-at-requires c κs = let h = kept (c .before .before) in omega arith
 
-wrapping-add-u64-requires : tie.Need-wrapping-add-u64-requires Inv-loop μ-loop
-wrapping-add-u64-requires c κs = search needs
-
-add-i : tie.Need-add-i Inv-loop μ-loop
-add-i c = search needs
-
-loop-less : tie.Need-loop-less Inv-loop μ-loop
-loop-less c = omega arith
-
 loop-again : tie.Need-loop-again Inv-loop μ-loop
 loop-again c =
     let call = c .before .before .before in
@@ -59,12 +47,9 @@ loop-again c =
     let e = call .ask-at .ensures in (
       search needs,
       inv .1,
-      next-sum (askAt (a .version) (a .uptime) times packets) (l .loop .i) (inv .2) (e .0 ∙ ap wrapped (same-ask (a .version) (a .uptime) times packets (l .loop .i) (omega arith) (inv .3))) (c .wrapping-add-u64 .ensures),
+      next-sum (askSumAt (a .version) (a .uptime) times packets) (l .loop .i) (inv .2) (e .0 ∙ ap wrapped (same-ask (a .version) (a .uptime) times packets (l .loop .i) (omega arith) (inv .3))) (c .wrapping-add-u64 .ensures),
       next-request (a .version) (a .uptime) times packets (l .loop .i) (omega arith) (inv .3) (e .1),
     )
-
-same-length : tie.Need-same-length Inv-loop μ-loop
-same-length c = kept (c .before)
 
 returns : tie.Need-returns Inv-loop μ-loop
 unfolding blockAsk
@@ -80,12 +65,12 @@ sntp-ask-block-spec =
     (tie.spec
     Inv-loop
     μ-loop
-    least-requires
+    (λ c κs. search needs)
     loop-holds
     ask-at-requires
-    wrapping-add-u64-requires
-    add-i
-    loop-less
+    (λ c κs. search needs)
+    (λ c. search needs)
+    (λ c. omega arith)
     loop-again
-    same-length
+    (λ c. kept (c .before))
     returns)

@@ -1,11 +1,11 @@
 -- `client_block::digest::digest` meets its contract: one sum that wraps after another. Assumes nothing.
-use borrow.Author.Needs.{needs}
-use mathlib.Core.Path.{_≡_, ap, _∙_}
 use Prim.Native.Nat.{ℕ, _+_}
 use native.Mathlib.Omega.{arith}
+use mathlib.Core.Path.{_≡_, ap, _∙_}
+use borrow.Author.Needs.{needs}
 use Rattle.packet_block.specs.Sum.{wrapped}
-use Rattle.client_block.specs.Digest.{phaseNumber, smallSum, digest}
 use Rattle.packet_block.proofs.Sum.{one-more}
+use Rattle.client_block.specs.Digest.{phaseNumber, smallSum, digest}
 use Rattle.client_block.proofs.digest.digest.Statement.{statement}
 use Rattle.client_block.proofs.digest.digest.Tie as tie
 

@@ -1,7 +1,7 @@
 -- `packet_block::read::fields_sum` meets its contract: one sum that wraps after another. Assumes nothing.
-use borrow.Author.Needs.{needs}
-use mathlib.Core.Path.{ap, _∙_}
 use Prim.Native.Nat.{_+_}
+use mathlib.Core.Path.{ap, _∙_}
+use borrow.Author.Needs.{needs}
 use Rattle.packet_block.specs.Sum.{wrapped}
 use Rattle.packet_block.specs.Read.{headerSum}
 use Rattle.packet_block.proofs.Sum.{one-more}

@@ -1,7 +1,7 @@
 -- `packet_block::read::header_sum` meets its contract: the signed fields by their bits. Assumes nothing.
-use borrow.Author.Needs.{needs}
 use mir.Syntax.{w8, w32}
 use mir.ValLaws.{toZ-ofZ}
+use borrow.Author.Needs.{needs}
 use Rattle.packet_block.proofs.read.header_sum.Statement.{statement}
 use Rattle.packet_block.proofs.read.header_sum.Tie as tie
 

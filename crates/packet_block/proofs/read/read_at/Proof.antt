@@ -1,8 +1,8 @@
 -- `packet_block::read::read_at` meets its contract: the part that was lent is the packet of its place. Assumes nothing.
-use borrow.Author.Needs.{needs}
-use mathlib.Core.Path.{ap, _∙_}
 use Prim.Native.Nat.{_*_}
+use mathlib.Core.Path.{ap, _∙_}
 use denote.Ref.{now}
+use borrow.Author.Needs.{needs}
 use Rattle.arithmetic.proofs.Parts.{same-part}
 use Rattle.packet.specs.Packet.{readAnswer}
 use Rattle.packet_block.specs.Sum.{wrapped}

@@ -1,7 +1,7 @@
 -- `packet_block::read::read_sum` meets its contract: a refusal's number is small. Assumes nothing.
-use borrow.Author.Needs.{needs}
-use mathlib.Core.Path.{_≡_, sym, ap, _∙_}
 use native.Mathlib.Omega.{arith}
+use mathlib.Core.Path.{_≡_, sym, ap, _∙_}
+use borrow.Author.Needs.{needs}
 use Rattle.packet_block.specs.Sum.{wrapped}
 use Rattle.packet_block.specs.Read.{readSum}
 use Rattle.packet_block.proofs.read.read_sum.Statement.{statement}

@@ -6,13 +6,13 @@ use denote.Ref.{now}
 use borrow.Author.Needs.{needs}
 use Rattle.packet.specs.Packet.{packetCount}
 use Rattle.packet_block.specs.Sum.{sumOver, wrapped}
-use Rattle.packet_block.specs.Read.{readAt, blockRead}
+use Rattle.packet_block.specs.Read.{readSumAt, blockRead}
 use Rattle.packet_block.proofs.Sum.{next-sum}
 use Rattle.packet_block.proofs.read.sntp_read_block.Statement.{statement}
 use Rattle.packet_block.proofs.read.sntp_read_block.Tie as tie
 
 abbrev Inv-loop : tie.InvT-loop
-Inv-loop packets count sum₀ i₀ sum i = (i ≤ count) × (count ≡ packetCount packets) × (sum ≡ wrapped (sumOver (readAt packets) i))
+Inv-loop packets count sum₀ i₀ sum i = (i ≤ count) × (count ≡ packetCount packets) × (sum ≡ wrapped (sumOver (readSumAt packets) i))
 
 abbrev μ-loop : tie.MeasureT-loop
 μ-loop packets count sum₀ i₀ sum i = count - i
@@ -21,23 +21,11 @@ loop-holds : tie.Need-loop-holds Inv-loop μ-loop
 unfolding sumOver
 loop-holds c = (search needs, refl, refl)
 
-read-at-requires : tie.Need-read-at-requires Inv-loop μ-loop
-read-at-requires c κs = omega arith
-
-wrapping-add-u64-requires : tie.Need-wrapping-add-u64-requires Inv-loop μ-loop
-wrapping-add-u64-requires c κs = search needs
-
-add-i : tie.Need-add-i Inv-loop μ-loop
-add-i c = search needs
-
-loop-less : tie.Need-loop-less Inv-loop μ-loop
-loop-less c = omega arith
-
 loop-again : tie.Need-loop-again Inv-loop μ-loop
 loop-again c =
     let l = c .before .before .before in
     let packets = now (l .before .before .args .packets) in
-    (search needs, l .loop .inv .1, next-sum (readAt packets) (l .loop .i) (l .loop .inv .2) (c .before .read-at .ensures) (c .wrapping-add-u64 .ensures))
+    (search needs, l .loop .inv .1, next-sum (readSumAt packets) (l .loop .i) (l .loop .inv .2) (c .before .read-at .ensures) (c .wrapping-add-u64 .ensures))
 
 returns : tie.Need-returns Inv-loop μ-loop
 unfolding blockRead
@@ -45,7 +33,7 @@ returns c =
     let l = c .before .loop in
     let packets = now (c .before .before .before .args .packets) in
     let all : l .i ≡ packetCount packets = omega arith in
-    l .inv .2 ∙ ap (λ n. wrapped (sumOver (readAt packets) n)) all
+    l .inv .2 ∙ ap (λ n. wrapped (sumOver (readSumAt packets) n)) all
 
 pub sntp-read-block-spec : {M : Type 1} → statement M
 sntp-read-block-spec =
@@ -54,9 +42,9 @@ sntp-read-block-spec =
     Inv-loop
     μ-loop
     loop-holds
-    read-at-requires
-    wrapping-add-u64-requires
-    add-i
-    loop-less
+    (λ c κs. omega arith)
+    (λ c κs. search needs)
+    (λ c. search needs)
+    (λ c. omega arith)
     loop-again
     returns)

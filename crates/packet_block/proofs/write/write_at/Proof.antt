@@ -1,8 +1,8 @@
 -- `packet_block::write::write_at` meets its contract: the part that was lent is put back. Assumes nothing.
-use borrow.Author.Needs.{needs}
 use Prim.Native.Nat.{_*_}
-use lib.ListN.{getD}
 use denote.Ref.{now}
+use lib.ListN.{getD}
+use borrow.Author.Needs.{needs}
 use Rattle.arithmetic.proofs.Parts.{put-back}
 use Rattle.packet.specs.Packet.{written}
 use Rattle.packet_block.specs.Write.{withTransmit}

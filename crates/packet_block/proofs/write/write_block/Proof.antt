@@ -17,9 +17,6 @@ Inv-loop fields transmits packets₀ count i₀ packets i =
 abbrev μ-loop : tie.MeasureT-loop
 μ-loop fields transmits packets₀ count i₀ packets i = count - i
 
-least-requires : tie.Need-least-requires Inv-loop μ-loop
-least-requires c κs = search needs
-
 loop-holds : tie.Need-loop-holds Inv-loop μ-loop
 unfolding blockWritten
 loop-holds c = (search needs, c .least .ensures, refl)
@@ -36,21 +33,12 @@ kept l =
 write-at-requires : tie.Need-write-at-requires Inv-loop μ-loop
 write-at-requires c κs = let h = kept (c .before .before) in omega arith
 
-add-i : tie.Need-add-i Inv-loop μ-loop
-add-i c = search needs
-
-loop-less : tie.Need-loop-less Inv-loop μ-loop
-loop-less c = omega arith
-
 loop-again : tie.Need-loop-again Inv-loop μ-loop
 loop-again c =
     let call = c .before .before in
     let l = call .before .before .before in
     let a = start l .args in
     (search needs, l .loop .inv .1, next-written (withTransmit (a .fields)) (now (a .transmits)) (now (a .packets)) (l .loop .i) (omega arith) (l .loop .inv .2) (call .write-at .ensures))
-
-same-length : tie.Need-same-length Inv-loop μ-loop
-same-length c = kept (c .before)
 
 returns : tie.Need-returns Inv-loop μ-loop
 returns c =
@@ -64,11 +52,11 @@ write-block-spec =
     (tie.spec
     Inv-loop
     μ-loop
-    least-requires
+    (λ c κs. search needs)
     loop-holds
     write-at-requires
-    add-i
-    loop-less
+    (λ c. search needs)
+    (λ c. omega arith)
     loop-again
-    same-length
+    (λ c. kept (c .before))
     returns)
