@@ -3,8 +3,8 @@
 //! Both sides run over the same blocks of packets; their outputs are compared octet for octet and
 //! their times are printed as tables. A difference ends the program with status 1.
 //!
-//! `tests/benchmark` builds and runs it. By itself it is run in this folder, with the folder of
-//! libreply_block.a and libclient_block.a in ARCHIVES and the number of rounds as the only argument
+//! `tests/blocks` builds the archives and this program and runs it. By itself it is run in this
+//! folder, with the folder of the archives in ARCHIVES and the number of rounds as the only argument
 //! (60 if there is none):
 //!
 //!     ARCHIVES=$PWD/../target/staticlib cargo run --release --offline -- 60

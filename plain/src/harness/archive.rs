@@ -53,7 +53,7 @@ pub fn reply_block(
     }
 }
 
-#[link(name = "client_block", kind = "static")]
+#[link(name = "packet_block", kind = "static")]
 unsafe extern "C" {
     fn sntp_read_block(packets: *const u8, packets_len: usize) -> u64;
 
@@ -75,7 +75,10 @@ unsafe extern "C" {
         packets: *mut u8,
         packets_len: usize,
     ) -> usize;
+}
 
+#[link(name = "client_block", kind = "static")]
+unsafe extern "C" {
     fn sntp_ask_block(
         version: u8,
         uptime: u64,
