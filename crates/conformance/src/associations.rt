@@ -1,0 +1,117 @@
+// The operations for a record of a list: 0E, 0F and 10.
+ghost use Prim.Native.Nat.{_≤_};
+use crate::answers::Answer;
+use crate::answers::Numbers;
+use crate::answers::numbered;
+use crate::answers::wide8;
+use crate::clients::arrived;
+use crate::clients::called;
+use crate::input::octet;
+use crate::input::record;
+use crate::input::rest;
+use crate::input::timestamp;
+use crate::lengths::LARGEST_COUNT;
+use crate::lengths::RECORD;
+use associations_by_value::CalledByValue;
+use client::Client;
+use slices::read_be64;
+use token::Token;
+
+// The places of a list in a line. `NUMBER` is that of the record that the call is for.
+const COUNT: usize = 1;
+
+const IN_USE: usize = 2;
+
+const NUMBER: usize = 3;
+
+pub(crate) const RECORDS: usize = 4;
+
+pub(crate) fn count(line: &[u8]) -> usize
+    ensures { λ r. ⌜ r ≤ 255 ⌝ }
+{
+    octet(line, COUNT) as usize
+}
+
+// Past their count the records are fresh.
+fn records(line: &[u8]) -> [Client; LARGEST_COUNT] {
+    let count = count(line);
+    let fresh = Client::fresh();
+    let mut list = [fresh; LARGEST_COUNT];
+    for i in 0..LARGEST_COUNT {
+        if i < count {
+            list[i] = record(line, RECORDS + RECORD * i);
+        }
+    }
+    list
+}
+
+// What stands after the list of a line.
+pub(crate) fn after_list(line: &[u8]) -> &[u8] {
+    rest(line, RECORDS + RECORD * count(line))
+}
+
+fn called_for(line: &[u8], next: CalledByValue) -> Answer {
+    let result = next.result;
+    let answer = result.answer;
+    let records = next.records;
+    let in_use = wide8((result.in_use % 256) as u8);
+    Answer {
+        numbers: numbered(called(answer), 1, in_use, 0, 0, 0, 0),
+        records,
+        count: count(line),
+    }
+}
+
+pub(crate) fn ask(line: &[u8], buffer: &mut [u8]) -> Answer {
+    let call = after_list(line);
+    let next = associations_by_value::ask(
+        records(line),
+        count(line),
+        octet(line, NUMBER) as usize,
+        octet(line, IN_USE) as usize,
+        buffer,
+        octet(call, 1),
+        timestamp(call, 2),
+        Token(read_be64(call, 10)),
+        read_be64(call, 18),
+    );
+    called_for(line, next)
+}
+
+fn with_in_use(numbers: Numbers, in_use: usize) -> Numbers {
+    let mut next = numbers;
+    next.widths[7] = 1;
+    next.values[7] = wide8((in_use % 256) as u8);
+    next
+}
+
+pub(crate) fn arrival(line: &[u8]) -> Answer {
+    let call = after_list(line);
+    let next = associations_by_value::arrival(
+        records(line),
+        count(line),
+        octet(line, NUMBER) as usize,
+        octet(line, IN_USE) as usize,
+        rest(call, 8),
+        timestamp(call, 0),
+    );
+    let result = next.result;
+    let answer = result.answer;
+    let records = next.records;
+    Answer {
+        numbers: with_in_use(arrived(answer), result.in_use),
+        records,
+        count: count(line),
+    }
+}
+
+pub(crate) fn give_up(line: &[u8]) -> Answer {
+    let next = associations_by_value::give_up(
+        records(line),
+        count(line),
+        octet(line, NUMBER) as usize,
+        octet(line, IN_USE) as usize,
+        read_be64(after_list(line), 0),
+    );
+    called_for(line, next)
+}

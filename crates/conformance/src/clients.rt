@@ -1,0 +1,93 @@
+// The operations of the client: 08, 09, 0A and F0; and what a client's call gave.
+use crate::answers::Answer;
+use crate::answers::Numbers;
+use crate::answers::one;
+use crate::answers::wide8;
+use crate::answers::wide32;
+use crate::answers::with_record;
+use crate::input::octet;
+use crate::input::record;
+use crate::input::rest;
+use crate::input::timestamp;
+use client::CallAnswer;
+use client::Client;
+use reply_checks::ArrivalAnswer;
+use slices::read_be64;
+use token::Token;
+use twos_complement::bits64;
+
+pub(crate) fn called(answer: CallAnswer) -> u8 {
+    match answer {
+        CallAnswer::Refused(number) => number,
+        CallAnswer::Done => 0,
+    }
+}
+
+// What an arrival gave has one form for every kind.
+fn outcome(
+    kind: u8,
+    number: u64,
+    offset: u64,
+    half: u64,
+    delay: u64,
+    code: u64,
+    row: u64,
+) -> Numbers {
+    Numbers {
+        widths: [1, 1, 8, 1, 8, 4, 1, 0, 0, 0, 0, 0, 0, 0],
+        values: [
+            wide8(kind),
+            number,
+            offset,
+            half,
+            delay,
+            code,
+            row,
+            0,
+            0,
+            0,
+            0,
+            0,
+            0,
+            0,
+        ],
+    }
+}
+
+pub(crate) fn arrived(answer: ArrivalAnswer) -> Numbers {
+    match answer {
+        ArrivalAnswer::Refused(number) => outcome(0, wide8(number), 0, 0, 0, 0, 0),
+        ArrivalAnswer::Accepted {
+            offset,
+            half,
+            delay,
+        } => outcome(1, 0, bits64(offset), wide8(half), bits64(delay), 0, 0),
+        ArrivalAnswer::Kiss { code, row } => outcome(2, 0, 0, 0, 0, wide32(code), wide8(row)),
+    }
+}
+
+pub(crate) fn ask(line: &[u8], buffer: &mut [u8]) -> Answer {
+    let version = octet(line, 30);
+    let clock = timestamp(line, 31);
+    let token = Token(read_be64(line, 39));
+    let next = record(line, 1).ask(buffer, version, clock, token, read_be64(line, 47));
+    let answer = next.answer;
+    with_record(one(called(answer)), next.client)
+}
+
+pub(crate) fn arrival(line: &[u8]) -> Answer {
+    let alternate = octet(line, 37) == 1;
+    let next = record(line, 1).arrival(rest(line, 38), timestamp(line, 29), alternate);
+    let answer = next.answer;
+    with_record(arrived(answer), next.client)
+}
+
+pub(crate) fn give_up(line: &[u8]) -> Answer {
+    let next = record(line, 1).give_up(read_be64(line, 29));
+    let answer = next.answer;
+    with_record(one(called(answer)), next.client)
+}
+
+pub(crate) fn fresh() -> Answer {
+    with_record(one(0), Client::fresh())
+}
