@@ -5,9 +5,10 @@ use client::Client;
 use client::Phase;
 use slices::write_be64;
 
-pub(crate) const MOST: usize = 14;
+// A call's number and a packet's fields.
+const MOST: usize = 14;
 
-// The numbers from the left, each with its width in octets. A value has its number's octets first, as `wide8` and `wide32` shift them.
+// Numbers from the left, each with its width in octets, and 0 where there is none. Of a value's eight octets the first so many are the number's.
 pub(crate) struct Numbers {
     pub(crate) widths: [u8; MOST],
     pub(crate) values: [u64; MOST],
@@ -20,10 +21,12 @@ pub(crate) struct Answer {
     pub(crate) count: usize,
 }
 
+// The value of a number of one octet.
 pub(crate) fn wide8(x: u8) -> u64 {
     (x as u64) * 0x100_0000_0000_0000
 }
 
+// The value of a number of four octets.
 pub(crate) fn wide32(x: u32) -> u64 {
     (x as u64) * 0x1_0000_0000
 }
@@ -105,7 +108,7 @@ fn record(client: Client) -> Numbers {
     }
 }
 
-// The octets that the next number does not overwrite are the number's.
+// Puts the eight octets of a value; the next number overwrites those that are not the number's.
 fn put_number(octets: &mut [u8], at: usize, width: u8, value: u64) -> usize {
     write_be64(octets, at, value);
     if LONGEST_NUMBERS < at {

@@ -50,6 +50,7 @@ pub(crate) fn after_list(line: &[u8]) -> &[u8] {
     rest(line, RECORDS + RECORD * count(line))
 }
 
+// The answer for a line after an ask or a give-up.
 fn called_for(line: &[u8], next: CalledByValue) -> Answer {
     let result = next.result;
     let answer = result.answer;
@@ -78,6 +79,7 @@ pub(crate) fn ask(line: &[u8], buffer: &mut [u8]) -> Answer {
     called_for(line, next)
 }
 
+// What an arrival gave is seven numbers; the number in use is the eighth.
 fn with_in_use(numbers: Numbers, in_use: usize) -> Numbers {
     let mut next = numbers;
     next.widths[7] = 1;

@@ -24,25 +24,17 @@ pub(crate) fn called(answer: CallAnswer) -> u8 {
 }
 
 // What an arrival gave has one form for every kind.
-fn outcome(
-    kind: u8,
-    number: u64,
-    offset: u64,
-    half: u64,
-    delay: u64,
-    code: u64,
-    row: u64,
-) -> Numbers {
+fn outcome(kind: u8, number: u8, offset: i64, half: u8, delay: i64, code: u32, row: u8) -> Numbers {
     Numbers {
         widths: [1, 1, 8, 1, 8, 4, 1, 0, 0, 0, 0, 0, 0, 0],
         values: [
             wide8(kind),
-            number,
-            offset,
-            half,
-            delay,
-            code,
-            row,
+            wide8(number),
+            bits64(offset),
+            wide8(half),
+            bits64(delay),
+            wide32(code),
+            wide8(row),
             0,
             0,
             0,
@@ -56,13 +48,13 @@ fn outcome(
 
 pub(crate) fn arrived(answer: ArrivalAnswer) -> Numbers {
     match answer {
-        ArrivalAnswer::Refused(number) => outcome(0, wide8(number), 0, 0, 0, 0, 0),
+        ArrivalAnswer::Refused(number) => outcome(0, number, 0, 0, 0, 0, 0),
         ArrivalAnswer::Accepted {
             offset,
             half,
             delay,
-        } => outcome(1, 0, bits64(offset), wide8(half), bits64(delay), 0, 0),
-        ArrivalAnswer::Kiss { code, row } => outcome(2, 0, 0, 0, 0, wide32(code), wide8(row)),
+        } => outcome(1, 0, offset, half, delay, 0, 0),
+        ArrivalAnswer::Kiss { code, row } => outcome(2, 0, 0, 0, 0, code, row),
     }
 }
 

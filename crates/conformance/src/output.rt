@@ -41,7 +41,7 @@ pub(crate) fn put(
     buffer: &[u8; LONGEST_LENT],
     lent: usize,
 ) -> usize {
-    let mut octets = [0u8; LONGEST_NUMBERS + 7];
+    let mut octets = [0u8; LONGEST_NUMBERS + 7]; // the last value is put with up to seven octets that are not the number's
     let count = answers::put(&mut octets, answer);
     let end = put_first(out, place(out, at), &octets, count);
     if end == 0 {

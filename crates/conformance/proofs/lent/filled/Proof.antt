@@ -1,6 +1,5 @@
+-- `conformance::lent::filled` is safe and ends: the index stays within the buffer. Assumes nothing.
 use Prim.Native.Nat.{_≤_, _-_}
-use mathlib.Core.Path.{_≡_}
-use lib.ListN.{length}
 use borrow.Author.Needs.{needs}
 use Rattle.conformance.proofs.lent.filled.Statement.{statement}
 use Rattle.conformance.proofs.lent.filled.Tie as tie
@@ -11,41 +10,17 @@ Inv-loop buffer₀ i₀ buffer i = i ≤ 80
 abbrev μ-loop : tie.MeasureT-loop
 μ-loop buffer₀ i₀ buffer i = 80 - i
 
-loop-holds : tie.Need-loop-holds Inv-loop μ-loop
-loop-holds c = search needs
-
-add-buffer : tie.Need-add-buffer Inv-loop μ-loop
-add-buffer c = search needs
-
-cast-buffer : tie.Need-cast-buffer Inv-loop μ-loop
-cast-buffer c = search needs
-
-array-write-buffer : tie.Need-array-write-buffer Inv-loop μ-loop
-array-write-buffer c = search needs
-
-add-i : tie.Need-add-i Inv-loop μ-loop
-add-i c = search needs
-
-loop-less : tie.Need-loop-less Inv-loop μ-loop
-loop-less c = search needs
-
-loop-again : tie.Need-loop-again Inv-loop μ-loop
-loop-again c = search needs
-
-returns : tie.Need-returns Inv-loop μ-loop
-returns c = search needs
-
 pub filled-spec : {M : Type 1} → statement M
 filled-spec =
     tie.close
     (tie.spec
     Inv-loop
     μ-loop
-    loop-holds
-    add-buffer
-    cast-buffer
-    array-write-buffer
-    add-i
-    loop-less
-    loop-again
-    returns)
+    (λ c. search needs)
+    (λ c. search needs)
+    (λ c. search needs)
+    (λ c. search needs)
+    (λ c. search needs)
+    (λ c. search needs)
+    (λ c. search needs)
+    (λ c. search needs))
