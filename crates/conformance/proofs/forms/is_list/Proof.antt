@@ -10,19 +10,49 @@ Inv-loop line count i₀ i = (i ≤ count) × (count ≤ 9)
 abbrev μ-loop : tie.MeasureT-loop
 μ-loop line count i₀ i = count - i
 
+returns : tie.Need-returns Inv-loop μ-loop
+returns c = search needs
+
+loop-holds : tie.Need-loop-holds Inv-loop μ-loop
+loop-holds c = search needs
+
+mul-is-record : tie.Need-mul-is-record Inv-loop μ-loop
+mul-is-record c = search needs
+
+add-is-record : tie.Need-add-is-record Inv-loop μ-loop
+add-is-record c = search needs
+
+is-record-requires : tie.Need-is-record-requires Inv-loop μ-loop
+is-record-requires c κs = search needs
+
+returns-2 : tie.Need-returns-2 Inv-loop μ-loop
+returns-2 c = search needs
+
+add-i : tie.Need-add-i Inv-loop μ-loop
+add-i c = search needs
+
+loop-less : tie.Need-loop-less Inv-loop μ-loop
+loop-less c = search needs
+
+loop-again : tie.Need-loop-again Inv-loop μ-loop
+loop-again c = search needs
+
+returns-3 : tie.Need-returns-3 Inv-loop μ-loop
+returns-3 c = search needs
+
 pub is-list-spec : {M : Type 1} → statement M
 is-list-spec =
     tie.close
     (tie.spec
     Inv-loop
     μ-loop
-    (λ c. search needs)
-    (λ c. search needs)
-    (λ c. search needs)
-    (λ c. search needs)
-    (λ c κs. search needs)
-    (λ c. search needs)
-    (λ c. search needs)
-    (λ c. search needs)
-    (λ c. search needs)
-    (λ c. search needs))
+    returns
+    loop-holds
+    mul-is-record
+    add-is-record
+    is-record-requires
+    returns-2
+    add-i
+    loop-less
+    loop-again
+    returns-3)
