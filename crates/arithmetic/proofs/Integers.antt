@@ -115,6 +115,10 @@ pub size : (a : ℤ) → (up a ≤ natAbs a + dn a) × (dn a ≤ natAbs a + up a
 size (pos a) = omega arith
 size (negsuc a) = omega arith
 
+pub size-is : (a : ℤ) → natAbs a ≡ (up a - dn a) + (dn a - up a)
+size-is (pos a) = omega arith
+size-is (negsuc a) = omega arith
+
 pub size-le : (a d : ℤ) → negℤ d ≤ℤ a → a ≤ℤ d → pos (natAbs a) ≤ℤ d
 size-le (pos a) d l r = r
 size-le (negsuc a) d l r = omega (arith, integers, neg d)

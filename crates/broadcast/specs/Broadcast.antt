@@ -4,10 +4,10 @@ use mathlib.Core.Bool.{not, _&&_}
 use mathlib.Core.List.{List, _++_}
 use lib.Dec.{eqb, ltb}
 use lib.ListN.{length, drop}
-use Rattle.refusals.specs.Numbers.{buffer-too-short, request-version-unsupported, settings-out-of-range, poll-out-of-range, server-timestamp-zero, packet-length-wrong, broadcast-mode-wrong, broadcast-version-unsupported, broadcast-unsynchronised, broadcast-stratum-wrong, broadcast-transmit-zero, own-clock-zero}
+use Rattle.refusals.specs.Numbers.{buffer-too-short, request-version-unsupported, settings-out-of-range, poll-out-of-range, server-timestamp-zero, packet-length-wrong, broadcast-mode-wrong, broadcast-version-unsupported, broadcast-unsynchronised, broadcast-stratum-wrong, broadcast-transmit-zero, own-clock-zero, no-order}
 use Rattle.ordered_tests.specs.Tests.{Tests, _if_else_, otherwise, answer, kept, between}
 use Rattle.timestamp.specs.declared.Timestamp.{Timestamp}
-use Rattle.timestamp.specs.Timestamp.{constants, isZero, _since_}
+use Rattle.timestamp.specs.Timestamp.{constants, isZero, _since_, noOrder}
 use Rattle.packet.specs.declared.Fields.{Fields}
 use Rattle.packet.specs.declared.WriteAnswer.{WriteAnswer}
 use Rattle.packet.specs.Packet.{packetLength, fieldsOf, octetsOf, wrongLength}
@@ -57,6 +57,7 @@ fieldTests f t4 =
     broadcast-stratum-wrong if not (between 1 15 (f .stratum)) else
     broadcast-transmit-zero if isZero (f .transmit) else
     own-clock-zero if isZero t4 else
+    no-order if noOrder (f .transmit since t4) else
     otherwise (BroadcastAnswer.Difference (f .transmit since t4))
 
 abbrev pub arrivalTests : List ℕ → Timestamp → Tests BroadcastAnswer

@@ -13,6 +13,7 @@ use packet::WriteAnswer;
 use server_packet::Message;
 use server_packet::Settings;
 use server_packet::out_of_range;
+use timestamp::Difference;
 use timestamp::Timestamp;
 
 // The difference of T3 and T4: how far the server's clock is ahead, less the time that the packet travelled.
@@ -75,40 +76,33 @@ pub fn write(
     WriteAnswer::Written
 }
 
-fn first_refusal(f: Fields, t4: Timestamp) -> u8
-    ensures { λ r. ⌜ r ≡ number (fieldTests f t4) ⌝ }
-{
-    if f.mode != 5 {
-        return refusals::BROADCAST_MODE_WRONG;
-    }
-    if !between(1, 4, f.version) {
-        return refusals::BROADCAST_VERSION_UNSUPPORTED;
-    }
-    if f.leap == 3 {
-        return refusals::BROADCAST_UNSYNCHRONISED;
-    }
-    if !between(1, 15, f.stratum) {
-        return refusals::BROADCAST_STRATUM_WRONG;
-    }
-    let transmit = f.transmit;
-    if transmit.is_zero() {
-        return refusals::BROADCAST_TRANSMIT_ZERO;
-    }
-    if t4.is_zero() {
-        return refusals::OWN_CLOCK_ZERO;
-    }
-    0
-}
-
+// The tests in order, of a packet with these fields, and then the difference.
 fn check(f: Fields, t4: Timestamp) -> BroadcastAnswer
     ensures { λ r. ⌜ r ≡ answer BroadcastAnswer.Refused (fieldTests f t4) ⌝ }
 {
-    let n = first_refusal(f, t4);
-    if n != 0 {
-        return BroadcastAnswer::Refused(n);
+    if f.mode != 5 {
+        return BroadcastAnswer::Refused(refusals::BROADCAST_MODE_WRONG);
+    }
+    if !between(1, 4, f.version) {
+        return BroadcastAnswer::Refused(refusals::BROADCAST_VERSION_UNSUPPORTED);
+    }
+    if f.leap == 3 {
+        return BroadcastAnswer::Refused(refusals::BROADCAST_UNSYNCHRONISED);
+    }
+    if !between(1, 15, f.stratum) {
+        return BroadcastAnswer::Refused(refusals::BROADCAST_STRATUM_WRONG);
     }
     let transmit = f.transmit;
-    BroadcastAnswer::Difference(transmit.minus(t4))
+    if transmit.is_zero() {
+        return BroadcastAnswer::Refused(refusals::BROADCAST_TRANSMIT_ZERO);
+    }
+    if t4.is_zero() {
+        return BroadcastAnswer::Refused(refusals::OWN_CLOCK_ZERO);
+    }
+    match transmit.minus(t4) {
+        Difference::NoOrder => BroadcastAnswer::Refused(refusals::NO_ORDER),
+        Difference::Units(difference) => BroadcastAnswer::Difference(difference),
+    }
 }
 
 // Arrival of a broadcast packet at the clock reading T4.

@@ -3,10 +3,10 @@ use Prim.Native.Nat.{ℕ, suc, _/_}
 use lib.IntN.{ℤ, pos, negsuc, negℤ, _+ℤ_, _-ℤ_}
 use lib.Signed.{ltZ}
 use Rattle.arithmetic.specs.Modulo.{_modulo_}
-use Rattle.refusals.specs.Numbers.{arrived-before-sent, arrived-too-late, answered-before-received, delay-negative, first-below-second}
+use Rattle.refusals.specs.Numbers.{arrived-before-sent, arrived-too-late, answered-before-received, delay-negative, first-below-second, no-order}
 use Rattle.ordered_tests.specs.Tests.{Tests, _if_else_, otherwise, answer}
 use Rattle.timestamp.specs.declared.Timestamp.{Timestamp}
-use Rattle.timestamp.specs.Timestamp.{constants, _since_, negative}
+use Rattle.timestamp.specs.Timestamp.{constants, _since_, noOrder, negative}
 use Rattle.offset.specs.declared.Halves.{Halves}
 use Rattle.offset.specs.declared.OffsetAnswer.{OffsetAnswer}
 use Rattle.offset.specs.declared.OffsetAnswer.the-variants.{Refused, Measured}
@@ -26,10 +26,14 @@ halves sum = record { offset = floorHalf sum; half = halfOf sum }
 -- the tests in order, of T4 - T1, T3 - T2, the first difference P and the second difference Q; the delay d is (T4 - T1) - (T3 - T2)
 unfoldable pub offsetTests : ℤ → ℤ → ℤ → ℤ → Tests OffsetAnswer
 offsetTests trip hold p q =
+    no-order if noOrder trip else
     arrived-before-sent if negative trip else
     arrived-too-late if ltZ (constants .limit) trip else
+    no-order if noOrder hold else
     answered-before-received if negative hold else
     delay-negative if negative (trip -ℤ hold) else
+    no-order if noOrder p else
+    no-order if noOrder q else
     first-below-second if ltZ p q else
     otherwise (Measured (floorHalf (p +ℤ q)) (halfOf (p +ℤ q)) (trip -ℤ hold))
 

@@ -2,6 +2,7 @@
 ghost use mathlib.Core.Path.{_≡_};
 ghost use lib.IntN.{_+ℤ_};
 ghost use Rattle.offset.specs.Offset.{halves, measured};
+use timestamp::Difference;
 use timestamp::Timestamp;
 
 // The refusal's number, or the offset with its half, and the round-trip delay, all in units of 2^-32 s.
@@ -32,22 +33,30 @@ pub fn halve(p: i64, q: i64) -> Halves
 pub fn measure(t1: Timestamp, t2: Timestamp, t3: Timestamp, t4: Timestamp) -> OffsetAnswer
     ensures { λ r. ⌜ r ≡ measured t1 t2 t3 t4 ⌝ }
 {
-    let trip = t4.minus(t1);
+    let Difference::Units(trip) = t4.minus(t1) else {
+        return OffsetAnswer::Refused(refusals::NO_ORDER);
+    };
     if trip < 0 {
         return OffsetAnswer::Refused(refusals::ARRIVED_BEFORE_SENT);
     }
     if Timestamp::LIMIT < trip {
         return OffsetAnswer::Refused(refusals::ARRIVED_TOO_LATE);
     }
-    let hold = t3.minus(t2);
+    let Difference::Units(hold) = t3.minus(t2) else {
+        return OffsetAnswer::Refused(refusals::NO_ORDER);
+    };
     if hold < 0 {
         return OffsetAnswer::Refused(refusals::ANSWERED_BEFORE_RECEIVED);
     }
     if trip < hold {
         return OffsetAnswer::Refused(refusals::DELAY_NEGATIVE);
     }
-    let p = t2.minus(t1);
-    let q = t3.minus(t4);
+    let Difference::Units(p) = t2.minus(t1) else {
+        return OffsetAnswer::Refused(refusals::NO_ORDER);
+    };
+    let Difference::Units(q) = t3.minus(t4) else {
+        return OffsetAnswer::Refused(refusals::NO_ORDER);
+    };
     if p < q {
         return OffsetAnswer::Refused(refusals::FIRST_BELOW_SECOND);
     }

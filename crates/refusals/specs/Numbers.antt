@@ -172,6 +172,10 @@ poll-out-of-range = 41
 abbrev pub token-zero : ℕ
 token-zero = 42
 
+-- two timestamps exactly 2^63 units apart: no order
+abbrev pub no-order : ℕ
+no-order = 43
+
 -- replay line malformed
 abbrev pub line-malformed : ℕ
 line-malformed = 64
@@ -221,6 +225,7 @@ numbers =
     ∷ broadcast-transmit-zero
     ∷ poll-out-of-range
     ∷ token-zero
+    ∷ no-order
     ∷ line-malformed
     ∷ []
 

@@ -128,11 +128,14 @@ pub const POLL_OUT_OF_RANGE: u8 = 41;
 // Token zero.
 pub const TOKEN_ZERO: u8 = 42;
 
+// Two timestamps exactly 2^63 units apart: no order.
+pub const NO_ORDER: u8 = 43;
+
 // Replay line malformed.
 pub const LINE_MALFORMED: u8 = 64;
 
 // All of them, in the order of the rules' table.
-pub fn numbers() -> [u8; 43]
+pub fn numbers() -> [u8; 44]
     ensures { λ r. ⌜ r ≡ numbers ⌝ }
 {
     [
@@ -178,6 +181,7 @@ pub fn numbers() -> [u8; 43]
         BROADCAST_TRANSMIT_ZERO,
         POLL_OUT_OF_RANGE,
         TOKEN_ZERO,
+        NO_ORDER,
         LINE_MALFORMED,
     ]
 }

@@ -4,10 +4,10 @@ use mathlib.Core.Bool.{not, _&&_, _||_}
 use mathlib.Core.List.{List, _++_}
 use lib.Dec.{eqb}
 use lib.ListN.{drop}
-use Rattle.refusals.specs.Numbers.{buffer-too-short, packet-length-wrong, request-mode-wrong, request-version-unsupported, settings-out-of-range, server-timestamp-zero, answered-before-received}
+use Rattle.refusals.specs.Numbers.{buffer-too-short, packet-length-wrong, request-mode-wrong, request-version-unsupported, settings-out-of-range, server-timestamp-zero, answered-before-received, no-order}
 use Rattle.ordered_tests.specs.Tests.{Tests, _if_else_, otherwise, answer, kept, between}
 use Rattle.timestamp.specs.declared.Timestamp.{Timestamp}
-use Rattle.timestamp.specs.Timestamp.{isZero, _since_, negative}
+use Rattle.timestamp.specs.Timestamp.{isZero, _since_, noOrder, negative}
 use Rattle.packet.specs.declared.Fields.{Fields}
 use Rattle.packet.specs.Packet.{packetLength, fieldsOf, octetsOf, tooShort, wrongLength}
 use Rattle.server_packet.specs.declared.Settings.{Settings}
@@ -23,6 +23,7 @@ requestTests s request t2 t3 =
     request-version-unsupported if not (between 1 4 (request .version)) else
     settings-out-of-range if outOfRange s else
     server-timestamp-zero if s .synchronised && (isZero t2 || isZero t3) else
+    no-order if s .synchronised && noOrder (t3 since t2) else
     answered-before-received if s .synchronised && negative (t3 since t2) else
     otherwise Written
 

@@ -12,6 +12,7 @@ use packet::FieldsAnswer;
 use server_packet::Message;
 use server_packet::Settings;
 use server_packet::out_of_range;
+use timestamp::Difference;
 use timestamp::Timestamp;
 
 pub enum ReplyAnswer {
@@ -32,10 +33,16 @@ fn first_refusal(settings: Settings, request: Fields, t2: Timestamp, t3: Timesta
     if out_of_range(settings) {
         return refusals::SETTINGS_OUT_OF_RANGE;
     }
-    if settings.synchronised & (t2.is_zero() | t3.is_zero()) {
+    if !settings.synchronised {
+        return 0;
+    }
+    if t2.is_zero() | t3.is_zero() {
         return refusals::SERVER_TIMESTAMP_ZERO;
     }
-    if settings.synchronised & (t3.minus(t2) < 0) {
+    let Difference::Units(hold) = t3.minus(t2) else {
+        return refusals::NO_ORDER;
+    };
+    if hold < 0 {
         return refusals::ANSWERED_BEFORE_RECEIVED;
     }
     0

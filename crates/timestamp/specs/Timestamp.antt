@@ -1,12 +1,14 @@
 -- Timestamps and their differences (docs/RULES.md, "Timestamps and their differences").
 use Prim.Native.Nat.{ℕ, _+_, _*_, _/_, _%_, _^_}
-use mathlib.Core.Bool.{Bool}
+use mathlib.Core.Bool.{Bool, cond}
 use lib.Dec.{eqb}
-use lib.IntN.{ℤ, pos}
+use lib.IntN.{ℤ, pos, natAbs}
 use lib.Signed.{ltZ}
 use Rattle.arithmetic.specs.TwosComplement.{difference}
 use Rattle.timestamp.specs.declared.Timestamp.{Timestamp}
 use Rattle.timestamp.specs.declared.Constants.{Constants}
+use Rattle.timestamp.specs.declared.Difference.{Difference}
+use Rattle.timestamp.specs.declared.Difference.the-variants.{NoOrder, Units}
 
 -- the timestamp of a number of units of 2^-32 s, and of 32 bits of seconds and 32 of fraction
 abbrev pub timestamp : ℕ → Timestamp
@@ -32,6 +34,14 @@ isZero t = eqb (t .0) 0
 infixl 60 _since_
 unfoldable pub _since_ : Timestamp → Timestamp → ℤ
 x since y = difference 64 (x .0) (y .0)
+
+-- half a circle apart, a difference of exactly 2^63, there is no order
+unfoldable pub noOrder : ℤ → Bool
+noOrder z = eqb (natAbs z) (2 ^ 63)
+
+-- what is answered of a difference
+unfoldable pub ordered : ℤ → Difference
+ordered z = cond (noOrder z) NoOrder (Units z)
 
 abbrev pub negative : ℤ → Bool
 negative z = ltZ z (pos 0)

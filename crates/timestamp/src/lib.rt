@@ -1,6 +1,6 @@
 // A timestamp: 32 bits of seconds and 32 of fraction, so that one unit is 2^-32 s.
 ghost use mathlib.Core.Path.{_≡_};
-ghost use Rattle.timestamp.specs.Timestamp.{timestamp, fromSeconds, secondsOf, fractionOf, constants, isZero, _since_};
+ghost use Rattle.timestamp.specs.Timestamp.{timestamp, fromSeconds, secondsOf, fractionOf, constants, isZero, _since_, ordered};
 
 // A type of its own: the type checker keeps it apart from a difference, which is an i64.
 pub struct Timestamp(pub u64);
@@ -11,6 +11,12 @@ pub struct Constants {
     pub second: u64,
     pub limit: i64,
     pub limit_seconds: u64,
+}
+
+// What a difference of two timestamps is: a number of units, or none where they are half a circle apart, 2^63 units, and neither is the earlier one.
+pub enum Difference {
+    NoOrder,
+    Units(i64),
 }
 
 impl Timestamp {
@@ -66,9 +72,13 @@ impl Timestamp {
     }
 
     // The signed difference self - other, right also across the wrap of 2036.
-    pub fn minus(self, other: Timestamp) -> i64
-        ensures { λ r. ⌜ r ≡ self since other ⌝ }
+    pub fn minus(self, other: Timestamp) -> Difference
+        ensures { λ r. ⌜ r ≡ ordered (self since other) ⌝ }
     {
-        twos_complement::signed64(std::num::wrapping_sub_u64(self.0, other.0))
+        let bits = std::num::wrapping_sub_u64(self.0, other.0);
+        if bits == 0x8000_0000_0000_0000 {
+            return Difference::NoOrder;
+        }
+        Difference::Units(twos_complement::signed64(bits))
     }
 }
