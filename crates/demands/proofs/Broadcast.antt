@@ -7,10 +7,11 @@ use Rattle.packet.specs.declared.WriteAnswer.{WriteAnswer}
 use Rattle.packet.specs.Packet.{fieldsOf, octetsOf}
 use Rattle.broadcast.specs.declared.BroadcastAnswer.{BroadcastAnswer}
 use Rattle.broadcast.specs.Broadcast.{writeTests, broadcastWritten, broadcastBuffer, fieldTests, arrivalTests, broadcastArrived}
+use Rattle.timestamp.specs.Timestamp.{_since_}
 use Rattle.demands.specs.Common.{Written}
 use Rattle.demands.specs.Broadcast.{Broadcast, broadcastFields, broadcast, ours-broadcast, BroadcastArrival, broadcastArrival, ours-arrival}
 use Rattle.ordered_tests.proofs.Reflection.{negated, refuted, guarded, is-true, at-least, equal, within}
-use Rattle.demands.proofs.Facts.{available, packet}
+use Rattle.demands.proofs.Facts.{available, in-order, packet}
 use Rattle.demands.proofs.Form.{Meets, _and_, end, by, acceptance-shown, table-answers}
 use Rattle.demands.proofs.Reply.{legally-set}
 
@@ -53,6 +54,7 @@ broadcast-arrival-meets = record {
         and negated (within 1 15 (f .stratum))
         and available (f .transmit)
         and available (x .t4)
+        and in-order (f .transmit since x .t4)
         and end refl;
   });
 }

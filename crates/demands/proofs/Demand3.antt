@@ -39,6 +39,7 @@ module _ (r : Run) (p : Premises ours r) where
     room = p .room;
     set = p .set;
     available = λ z. (p .orderly .nonzero .1, p .orderly .nonzero .2);
+    in-order = λ z. timely e (p .orderly) .hold-in-order;
     hold = λ z. timely e (p .orderly) .answered-after;
   }
 
@@ -66,7 +67,7 @@ module _ (r : Run) (p : Premises ours r) where
   with f = record { t1 = T1 e; t2 = f .receive; t3 = f .transmit; t4 = T4 e }
 
   timely-rules : (o : Outcome) → accepted w y ≡ o → Passes (fourRules (readings e) (does (accepted w y))) o
-  timely-rules o q = let t = timely e (p .orderly) in (t .arrived-after, (t .within-limit, (t .answered-after, (t .delay, (t .same-side, q)))))
+  timely-rules o q = let t = timely e (p .orderly) in (t .trip-in-order, (t .arrived-after, (t .within-limit, (t .hold-in-order, (t .answered-after, (t .delay, (t .first-in-order, (t .second-in-order, (t .same-side, q)))))))))
 
   passes : Passes (arrivalRules w y) (accepted w y)
   passes = matched served said (T4 e) (r .alternate) (sanityRules w y) (accepted w y) of-reply refl refl refl (inr (

@@ -4,13 +4,14 @@ use mathlib.Core.Path.{_≡_}
 use native.Mathlib.Omega.{arith}
 use lib.IntN.{ℤ, pos, natAbs, _+ℤ_, _-ℤ_}
 use lib.Signed.{_≤ℤ_}
-use Rattle.arithmetic.proofs.Integers.{up, dn, integers, sum, minus, neg, size, size-le, eq-integers}
+use Rattle.arithmetic.proofs.Integers.{up, dn, integers, sum, minus, neg, size, size-is, size-le, eq-integers}
 use Rattle.arithmetic.proofs.Modulo.{modulo-below}
 use Rattle.arithmetic.proofs.TwosComplement.{exact}
 use Rattle.timestamp.specs.Timestamp.{_since_}
 use Rattle.offset.specs.Offset.{floorHalf, halfOf}
 use Rattle.offset.specs.Halving.{twice}
 use Rattle.offset.proofs.Halving.{halving}
+use Rattle.demands.specs.Common.{InOrder}
 use Rattle.demands.specs.Measure.{P, Q, d}
 use Rattle.demands.specs.Demand3.{clocksApart, Exchange, reading, T1, T2, T3, T4, readings, trueDifference, Orderly}
 
@@ -65,10 +66,14 @@ module _ (e : Exchange) (o : Orderly e) where
 
   -- every rule of the four readings holds
   pub record Timely : Type 0 where
+    pub trip-in-order : InOrder (T4 e since T1 e)
     pub arrived-after : pos 0 ≤ℤ (T4 e since T1 e)
     pub within-limit : (T4 e since T1 e) ≤ℤ pos (2 ^ 36)
+    pub hold-in-order : InOrder (T3 e since T2 e)
     pub answered-after : pos 0 ≤ℤ (T3 e since T2 e)
     pub delay : pos 0 ≤ℤ d (readings e)
+    pub first-in-order : InOrder (P (readings e))
+    pub second-in-order : InOrder (Q (readings e))
     pub same-side : Q (readings e) ≤ℤ P (readings e)
 
   pub timely : Timely
@@ -79,10 +84,14 @@ module _ (e : Exchange) (o : Orderly e) where
       let back = o .back in
       let m = minus (T4 e since T1 e) (T3 e since T2 e) in
       record {
+        trip-in-order = λ h. omega (arith, integers, size-is (T4 e since T1 e));
         arrived-after = omega (arith, integers);
         within-limit = omega (arith, integers);
+        hold-in-order = λ h. omega (arith, integers, size-is (T3 e since T2 e));
         answered-after = omega (arith, integers);
         delay = omega (arith, integers);
+        first-in-order = λ h. omega (arith, integers, size-is (P (readings e)));
+        second-in-order = λ h. omega (arith, integers, size-is (Q (readings e)));
         same-side = omega (arith, integers);
       }
 

@@ -5,11 +5,12 @@ use mathlib.Core.Bool.{Bool, _||_}
 use mathlib.Core.List.{List}
 use Prim.Native.Nat.{ℕ, _+_, _≤_}
 use lib.Dec.{T, eqb}
+use lib.IntN.{ℤ}
 use lib.ListN.{length}
 use mir.Facts.{or-yes, eqb-yes, yes-eqb}
 use Rattle.ordered_tests.proofs.Reflection.{WhereTrue, WhereFalse, negated, refuted, at-least}
 use Rattle.timestamp.specs.declared.Timestamp.{Timestamp}
-use Rattle.timestamp.specs.Timestamp.{timestamp, isZero}
+use Rattle.timestamp.specs.Timestamp.{timestamp, isZero, noOrder}
 use Rattle.token.specs.declared.Token.{Token}
 use Rattle.token.specs.Token.{token, isZeroToken}
 use Rattle.packet.specs.Packet.{wrongLength}
@@ -17,7 +18,7 @@ use Rattle.poll.specs.Poll.{tooSoon}
 use Rattle.client.specs.declared.Phase.{Phase}
 use Rattle.client.specs.declared.Phase.the-variants.{Idle, Waiting, Stopped}
 use Rattle.client.specs.Record.{isIdle, isWaiting, isStopped}
-use Rattle.demands.specs.Common.{notAvailable, noToken, IsPacket}
+use Rattle.demands.specs.Common.{notAvailable, InOrder, noToken, IsPacket}
 
 -- ---- timestamps, tokens and packets
 
@@ -26,6 +27,10 @@ same-timestamp t u = record { to = λ e. yes-eqb (ap (λ (x : Timestamp). x .0) 
 
 pub available : (t : Timestamp) → WhereFalse (t ≢ notAvailable) (isZero t)
 available t = refuted (same-timestamp t notAvailable)
+
+pub in-order : (z : ℤ) → WhereFalse (InOrder z) (noOrder z)
+unfolding noOrder
+in-order z = refuted (record { to = yes-eqb; from = eqb-yes })
 
 pub same-token : (t u : Token) → WhereTrue (t ≡ u) (eqb (t .0) (u .0))
 same-token t u = record { to = λ e. yes-eqb (ap (λ (x : Token). x .0) e); from = λ h. ap token (eqb-yes h) }

@@ -2,7 +2,7 @@
 use mathlib.Core.Path.{refl}
 use Rattle.arithmetic.specs.Modulo.{_modulo_}
 use Rattle.arithmetic.specs.TwosComplement.{signed, difference}
-use Rattle.timestamp.specs.Timestamp.{_since_}
+use Rattle.timestamp.specs.Timestamp.{_since_, noOrder}
 use Rattle.offset.specs.Offset.{floorHalf, halfOf, offsetTests, measured}
 use Rattle.packet.specs.Packet.{fieldsOf}
 use Rattle.calendar.specs.Gregorian.{leapDays, yearDays, monthDays, before, last}
@@ -17,7 +17,7 @@ use Rattle.reply_checks.specs.Checks.{waitingTests, checkTests}
 use Rattle.demands.specs.Figures.{done, _and_, figures, Figures}
 
 pub figures-hold : Figures
-unfolding figures measured offsetTests floorHalf halfOf _since_ difference signed _modulo_ dateOf dateAt yearOn dayOfYear monthOn dayOfMonth secondsAt start1900 start2036 secondsTo daysTo before last yearDays monthDays leapDays precisionOf least afterAsk askTests illegal tooSoon arrived arrivalAnswer waitingTests checkTests fieldsOf
+unfolding figures measured offsetTests floorHalf halfOf _since_ noOrder difference signed _modulo_ dateOf dateAt yearOn dayOfYear monthOn dayOfMonth secondsAt start1900 start2036 secondsTo daysTo before last yearDays monthDays leapDays precisionOf least afterAsk askTests illegal tooSoon arrived arrivalAnswer waitingTests checkTests fieldsOf
 figures-hold =
     refl
     and refl

@@ -9,7 +9,7 @@ use lib.Dec.{T, ltb, lit<, lit≤}
 use lib.IntN.{ℤ, pos, negℤ, natAbs, _+ℤ_, _-ℤ_}
 use lib.Signed.{leZ, leZ-yes, _≤ℤ_, _<ℤ_}
 use lib.ListN.{take, drop}
-use Rattle.arithmetic.proofs.Integers.{integers, sum, minus, neg, size}
+use Rattle.arithmetic.proofs.Integers.{integers, sum, minus, neg, size, size-is}
 use Rattle.arithmetic.proofs.TwosComplement.{exact}
 use Rattle.arithmetic.specs.Modulo.{_modulo_}
 use Rattle.timestamp.specs.Timestamp.{isZero, _since_}
@@ -21,7 +21,7 @@ use Rattle.server_packet.specs.declared.Message.{Message}
 use Rattle.server_packet.specs.Packet.{synchronisedFields, packetFields}
 use Rattle.broadcast.specs.declared.BroadcastAnswer.{BroadcastAnswer}
 use Rattle.broadcast.specs.Broadcast.{broadcastMessage}
-use Rattle.demands.specs.Common.{notAvailable, Written}
+use Rattle.demands.specs.Common.{notAvailable, InOrder, Written}
 use Rattle.demands.specs.Broadcast.{Broadcast, broadcastFields}
 use Rattle.demands.specs.Behaviour.{broadcast, broadcastArrival, ours}
 use Rattle.demands.specs.Demand3.{longestTrip, reading}
@@ -63,6 +63,15 @@ difference-is e o = exact 64 (e .sent +ℤ e .server) (e .arrived +ℤ e .client
         let forth = o .forth in
         omega (arith, integers, times, size (trueDifference e), minus (e .arrived) (e .sent), minus (trueDifference e) (travelled e))
 
+pub one-way-in-order : (e : OneWay) → Orderly e → InOrder (T3 e since T4 e)
+one-way-in-order e o h =
+    let near = o .near in
+    let short = o .short in
+    let forth = o .forth in
+    let d = trueDifference e -ℤ travelled e in
+    let is : natAbs d ≡ 2 ^ 63 = subst (λ z. natAbs z ≡ 2 ^ 63) (difference-is e o) h in
+    omega (arith, integers, size-is d, size (trueDifference e), minus (e .arrived) (e .sent), minus (trueDifference e) (travelled e))
+
 module _ (r : Run) (p : Premises ours r) where
   abbrev x : Broadcast
   x = record { settings = r .settings; version = r .version; poll = r .poll; t3 = T3 (r .way); buffer = r .buffer }
@@ -91,7 +100,7 @@ module _ (r : Run) (p : Premises ours r) where
   arrival-is =
       (λ i. ours .does broadcastArrival (record { packet = packet-is i; t4 = T4 (r .way) }))
       ∙ done-so broadcast-arrival-meets (record { packet = octetsOf said; t4 = T4 (r .way) }) (BroadcastAnswer.Difference (fieldsOf (octetsOf said) .transmit since T4 (r .way)))
-      (inl (length-octetsOf said), (ap (λ f. f .mode) of-packet, (version-in, (leap-not, (stratum-in, (transmit-not, (p .orderly .nonzero .1, refl)))))))
+      (inl (length-octetsOf said), (ap (λ f. f .mode) of-packet, (version-in, (leap-not, (stratum-in, (transmit-not, (p .orderly .nonzero .1, (in-order, refl))))))))
       ∙ ap (λ f. BroadcastAnswer.Difference (f .transmit since T4 (r .way))) of-packet
     where
       version-in : (1 ≤ fieldsOf (octetsOf said) .version) × (fieldsOf (octetsOf said) .version ≤ 4)
@@ -102,6 +111,9 @@ module _ (r : Run) (p : Premises ours r) where
 
       stratum-in : (1 ≤ fieldsOf (octetsOf said) .stratum) × (fieldsOf (octetsOf said) .stratum ≤ 15)
       stratum-in = subst (λ f. (1 ≤ f .stratum) × (f .stratum ≤ 15)) (sym of-packet) (omega arith)
+
+      in-order : InOrder (fieldsOf (octetsOf said) .transmit since T4 (r .way))
+      in-order = subst (λ f. InOrder (f .transmit since T4 (r .way))) (sym of-packet) (one-way-in-order (r .way) (p .orderly))
 
       transmit-not : fieldsOf (octetsOf said) .transmit ≢ notAvailable
       transmit-not = subst (λ f. f .transmit ≢ notAvailable) (sym of-packet) (p .orderly .nonzero .0)

@@ -13,7 +13,7 @@ use Rattle.server.specs.Server.{requestTests, replyTests, replyFields, replied,
 use Rattle.demands.specs.Common.{Written}
 use Rattle.demands.specs.Reply.{Request, LegallySet, reply, ours}
 use Rattle.ordered_tests.proofs.Reflection.{WhereFalse, negated, both, guarded, is-true, at-least, equal, within}
-use Rattle.demands.proofs.Facts.{available, packet}
+use Rattle.demands.proofs.Facts.{available, in-order, packet}
 use Rattle.demands.proofs.Form.{Meets, _and_, end, by, acceptance-shown, table-answers}
 use Rattle.demands.proofs.Measure.{not-negative, at-most}
 
@@ -50,6 +50,7 @@ reply-meets = record {
         and negated (within 1 4 (fieldsOf (x .request) .version))
         and legally-set (x .settings)
         and guarded synchronised (both (available (x .t2)) (available (x .t3)))
+        and guarded synchronised (in-order (x .t3 since x .t2))
         and guarded synchronised (not-negative (x .t3 since x .t2))
         and end refl;
   });

@@ -34,7 +34,7 @@ use Rattle.server.specs.Server.{replyMessage, replyFields}
 use Rattle.client.specs.Calls as calls
 use Rattle.client.specs.Calls.{ask, Outcome}
 use Rattle.demands.specs.Form.{refusal, Rules}
-use Rattle.demands.specs.Common.{notAvailable, noToken, IsPacket, Written}
+use Rattle.demands.specs.Common.{notAvailable, noToken, IsPacket, Written, InOrder}
 use Rattle.demands.specs.Legal.{Legal}
 use Rattle.demands.specs.Ask.{requestSent}
 use Rattle.demands.specs.Arrival.{matchRules}
@@ -175,6 +175,7 @@ pub record Served (c : Client) (x : calls.Ask) (s : Settings) (t2 t3 : Timestamp
   pub room : 48 ≤ length buffer
   pub set : LegallySet s
   pub available : s .synchronised ≡ true → (t2 ≢ notAvailable) × (t3 ≢ notAvailable)
+  pub in-order : s .synchronised ≡ true → InOrder (t3 since t2)
   pub hold : s .synchronised ≡ true → pos 0 ≤ℤ (t3 since t2)
 
 module _ {c : Client} {x : calls.Ask} {s : Settings} {t2 t3 : Timestamp} {buffer : List ℕ} (r : Served c x s t2 t3 buffer) where
@@ -210,7 +211,7 @@ module _ {c : Client} {x : calls.Ask} {s : Settings} {t2 t3 : Timestamp} {buffer
                 r .set,
                 (
                   r .available,
-                  (r .hold, refl),
+                  (r .in-order, (r .hold, refl)),
                 ),
               ),
             ),

@@ -104,7 +104,7 @@ IsKiss r = (code : ℕ) × (row : ℕ) × (r ≡ calls.kiss code row)
 kiss-or-runs : (c : Client) (x : calls.Call) (o : calls.Outcome) → Passes (callRules c x) o → IsKiss (o .result) ⊎ single.Runs o
 kiss-or-runs c (calls.ask x) o (_, (_, (_, (_, (_, (_, (_, (_, e)))))))) = inr (subst single.Runs e waiting-runs)
 kiss-or-runs c (calls.arrival x) o (_, (_, (_, (_, (_, (_, inl (_, e))))))) = inl (subst (λ o. IsKiss (o .result)) e (_, _, refl))
-kiss-or-runs c (calls.arrival x) o (_, (_, (_, (_, (_, (_, inr (_, (_, (_, (_, (_, (_, (_, (_, (_, (_, (_, (_, e)))))))))))))))))) = inr (subst single.Runs e idle-runs)
+kiss-or-runs c (calls.arrival x) o (_, (_, (_, (_, (_, (_, inr (_, (_, (_, (_, (_, (_, (_, (_, (_, (_, (_, (_, (_, (_, (_, (_, e)))))))))))))))))))))) = inr (subst single.Runs e idle-runs)
 kiss-or-runs c (calls.giveUp x) o (_, (_, (_, e))) = inr (subst single.Runs e idle-runs)
 
 -- use stays where there is no alternate, or where another record was kissed

@@ -5,23 +5,12 @@ use mathlib.Core.Logic.{_⊎_, inl, inr}
 use native.Mathlib.Decide.{decLt}
 use native.Mathlib.Omega.{arith}
 use lib.IntN.{ℤ, pos, _-ℤ_}
-use Rattle.arithmetic.specs.TwosComplement.{Fits}
 use Rattle.arithmetic.proofs.Integers.{up, dn, integers, integers-eq, minus, neg}
 use Rattle.arithmetic.proofs.Modulo.{Congruent, near}
-use Rattle.arithmetic.proofs.TwosComplement.{difference-congruent, difference-fits}
-use Rattle.timestamp.specs.declared.Timestamp.{Timestamp}
 use Rattle.timestamp.specs.Timestamp.{_since_}
+use Rattle.timestamp.proofs.Order.{congruent, fits}
 use Rattle.demands.specs.Measure.{Four, P, Q, d}
-use Rattle.demands.specs.Sides.{Ordered, Sides, DifferentSides}
-
-module _ (x y : Timestamp) where
-  congruent : Congruent (2 ^ 64) (x since y) (pos (x .0) -ℤ pos (y .0))
-  unfolding _since_
-  congruent = difference-congruent 64 (x .0) (y .0) (omega arith)
-
-  fits : Fits 64 (x since y)
-  unfolding _since_
-  fits = difference-fits 64 (x .0) (y .0) (omega arith)
+use Rattle.demands.specs.Sides.{Before19, Sides, DifferentSides}
 
 module _ (x : Four) where
   open Four x using (t1, t2, t3, t4)
@@ -44,7 +33,7 @@ module _ (x : Four) where
         even = omega (arith, p .even, q .even, trip .even, hold .even);
       }
 
-  module _ (o : Ordered x) where
+  module _ (o : Before19 x) where
     -- the ranges of P, Q, P - Q and d, in natural numbers
     record Ranges : Type 0 where
       first : (dn (P x) ≤ up (P x) + 2 ^ 63) × (up (P x) < dn (P x) + 2 ^ 63)
@@ -56,10 +45,9 @@ module _ (x : Four) where
     ranges =
         let f = fits t2 t1 in
         let g = fits t3 t4 in
-        let low = neg (pos (2 ^ 63)) in
         let e₁ = minus (P x) (Q x) in
         let e₂ = minus (t4 since t1) (t3 since t2) in
-        omega (arith, integers, f .low, f .high, g .low, g .high, o .arrived-after, o .within-limit, o .answered-after, o .delay)
+        omega (arith, integers, f, g, o .arrived-after, o .within-limit, o .answered-after, o .delay)
 
     same : up (Q x) + dn (P x) ≤ up (P x) + dn (Q x) → P x -ℤ Q x ≡ d x
     same h =

@@ -28,7 +28,7 @@ pub passing-runs : (c : Client) (x : Call) (o : Outcome) → NoAlternate x → P
 passing-runs c (ask x) o alone (_, (_, (_, (_, (_, (_, (_, (_, e)))))))) = subst Runs e waiting-runs
 passing-runs c (arrival x) o alone (_, (_, (_, (_, (_, (_, inl (_, e))))))) =
     subst Runs e (subst (λ alternate. cond alternate (withoutRequest c Stopped (c .exponent)) (withoutRequest c Idle (min (suc (c .exponent)) 14)) .phase ≢ Stopped) (sym alone) idle-runs)
-passing-runs c (arrival x) o alone (_, (_, (_, (_, (_, (_, inr (_, (_, (_, (_, (_, (_, (_, (_, (_, (_, (_, (_, e)))))))))))))))))) = subst Runs e idle-runs
+passing-runs c (arrival x) o alone (_, (_, (_, (_, (_, (_, inr (_, (_, (_, (_, (_, (_, (_, (_, (_, (_, (_, (_, (_, (_, (_, (_, e)))))))))))))))))))))) = subst Runs e idle-runs
 passing-runs c (giveUp x) o alone (_, (_, (_, e))) = subst Runs e idle-runs
 
 pub never-stops : NeverStops ours

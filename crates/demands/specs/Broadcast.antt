@@ -5,7 +5,7 @@ use mathlib.Core.Logic.{_≢_}
 use mathlib.Core.Bool.{true}
 use mathlib.Core.List.{List, [], _∷_, _++_}
 use lib.ListN.{length, drop}
-use Rattle.refusals.specs.Numbers.{buffer-too-short, request-version-unsupported, settings-out-of-range, poll-out-of-range, server-timestamp-zero, packet-length-wrong, broadcast-mode-wrong, broadcast-version-unsupported, broadcast-unsynchronised, broadcast-stratum-wrong, broadcast-transmit-zero, own-clock-zero}
+use Rattle.refusals.specs.Numbers.{buffer-too-short, request-version-unsupported, settings-out-of-range, poll-out-of-range, server-timestamp-zero, packet-length-wrong, broadcast-mode-wrong, broadcast-version-unsupported, broadcast-unsynchronised, broadcast-stratum-wrong, broadcast-transmit-zero, own-clock-zero, no-order}
 use Rattle.timestamp.specs.declared.Timestamp.{Timestamp}
 use Rattle.timestamp.specs.Timestamp.{_since_}
 use Rattle.packet.specs.declared.Fields.{Fields}
@@ -16,7 +16,7 @@ use Rattle.server_packet.specs.Packet.{packetFields}
 use Rattle.broadcast.specs.declared.BroadcastAnswer.{BroadcastAnswer}
 use Rattle.broadcast.specs.Broadcast.{broadcastMessage, broadcastWritten, broadcastBuffer, broadcastArrived}
 use Rattle.demands.specs.Form.{Shown, refusedBy, telling, Rules, _unless_then_, does, Form, Implementation}
-use Rattle.demands.specs.Common.{notAvailable, IsPacket, Written}
+use Rattle.demands.specs.Common.{notAvailable, InOrder, IsPacket, Written}
 use Rattle.demands.specs.Write as writing
 use Rattle.demands.specs.Reply.{LegallySet}
 
@@ -79,6 +79,7 @@ module _ (x : BroadcastArrival) where
       broadcast-stratum-wrong unless (1 ≤ f .stratum) × (f .stratum ≤ 15) then
       broadcast-transmit-zero unless f .transmit ≢ notAvailable then
       own-clock-zero unless x .t4 ≢ notAvailable then
+      no-order unless InOrder (f .transmit since x .t4) then
       does (BroadcastAnswer.Difference (f .transmit since x .t4))
 
 abbrev pub broadcastArrival : Form

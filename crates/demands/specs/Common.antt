@@ -1,8 +1,9 @@
 -- What the rules of several calls speak of.
-use Prim.Native.Nat.{ℕ}
+use Prim.Native.Nat.{ℕ, _^_}
 use mathlib.Core.Path.{_≡_}
-use mathlib.Core.Logic.{_⊎_}
+use mathlib.Core.Logic.{_≢_, _⊎_}
 use mathlib.Core.List.{List}
+use lib.IntN.{ℤ, natAbs}
 use lib.ListN.{length}
 use Rattle.timestamp.specs.declared.Timestamp.{Timestamp}
 use Rattle.timestamp.specs.Timestamp.{constants}
@@ -12,6 +13,10 @@ use Rattle.token.specs.Token.{token}
 -- the all-zero timestamp: "not available"
 abbrev pub notAvailable : Timestamp
 notAvailable = constants .zero
+
+-- a difference of two timestamps has an order unless they are half a circle apart
+abbrev pub InOrder : ℤ → Type 0
+InOrder difference = natAbs difference ≢ 2 ^ 63
 
 -- no token
 abbrev pub noToken : Token

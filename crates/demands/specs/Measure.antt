@@ -3,12 +3,13 @@ use Prim.Native.Nat.{ℕ, _^_}
 use mathlib.Core.List.{[], _∷_}
 use lib.IntN.{ℤ, pos, _+ℤ_, _-ℤ_}
 use lib.Signed.{_≤ℤ_}
-use Rattle.refusals.specs.Numbers.{arrived-before-sent, arrived-too-late, answered-before-received, delay-negative, first-below-second}
+use Rattle.refusals.specs.Numbers.{arrived-before-sent, arrived-too-late, answered-before-received, delay-negative, first-below-second, no-order}
 use Rattle.timestamp.specs.declared.Timestamp.{Timestamp}
 use Rattle.timestamp.specs.Timestamp.{_since_}
 use Rattle.offset.specs.declared.OffsetAnswer.{OffsetAnswer}
 use Rattle.offset.specs.Offset.{floorHalf, halfOf, measured}
 use Rattle.demands.specs.Form.{Shown, refusedBy, telling, Rules, _unless_then_, does, Form, Implementation}
+use Rattle.demands.specs.Common.{InOrder}
 
 pub record Four : Type 0 where
   pub t1 : Timestamp
@@ -36,10 +37,14 @@ half x = halfOf (P x +ℤ Q x)
 -- the rules of the four, and then the rest
 abbrev pub fourRules : {O : Type 0} → Four → Rules O → Rules O
 fourRules x rest =
+    no-order unless InOrder (x .t4 since x .t1) then
     arrived-before-sent unless pos 0 ≤ℤ (x .t4 since x .t1) then
     arrived-too-late unless (x .t4 since x .t1) ≤ℤ pos (2 ^ 36) then
+    no-order unless InOrder (x .t3 since x .t2) then
     answered-before-received unless pos 0 ≤ℤ (x .t3 since x .t2) then
     delay-negative unless pos 0 ≤ℤ d x then
+    no-order unless InOrder (P x) then
+    no-order unless InOrder (Q x) then
     first-below-second unless Q x ≤ℤ P x then
     rest
 

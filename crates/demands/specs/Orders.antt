@@ -51,8 +51,12 @@ tests (n ∷ ns) = test n ∷ tests ns
 abbrev pub askOrder : List Place
 askOrder = tests (29 ∷ 1 ∷ 2 ∷ 3 ∷ 42 ∷ 4 ∷ 5 ∷ 6 ∷ [])
 
+-- of four timestamps: T4 - T1, T3 - T2, and P and then Q
+abbrev pub measureOrder : List Place
+measureOrder = tests (43 ∷ 15 ∷ 16 ∷ 43 ∷ 17 ∷ 18 ∷ 43 ∷ 43 ∷ 19 ∷ [])
+
 abbrev pub arrivalOrder : List Place
-arrivalOrder = tests (29 ∷ 7 ∷ 8 ∷ 9 ∷ 10 ∷ 11 ∷ []) ++ kiss ∷ tests (3 ∷ 12 ∷ 13 ∷ 14 ∷ 33 ∷ 34 ∷ 15 ∷ 16 ∷ 17 ∷ 18 ∷ 19 ∷ [])
+arrivalOrder = tests (29 ∷ 7 ∷ 8 ∷ 9 ∷ 10 ∷ 11 ∷ []) ++ kiss ∷ tests (3 ∷ 12 ∷ 13 ∷ 14 ∷ 33 ∷ 34 ∷ []) ++ measureOrder
 
 abbrev pub giveUpOrder : List Place
 giveUpOrder = tests (29 ∷ 8 ∷ 20 ∷ [])
@@ -61,19 +65,16 @@ giveUpOrder = tests (29 ∷ 8 ∷ 20 ∷ [])
 abbrev pub listOrder : List Place
 listOrder = tests (35 ∷ 29 ∷ [])
 
--- 14 and 17 when synchronised
+-- 14, 43 and 17 when synchronised
 abbrev pub replyOrder : List Place
-replyOrder = tests (1 ∷ 7 ∷ 21 ∷ 22 ∷ 23 ∷ 14 ∷ 17 ∷ [])
+replyOrder = tests (1 ∷ 7 ∷ 21 ∷ 22 ∷ 23 ∷ 14 ∷ 43 ∷ 17 ∷ [])
 
 -- 14 when synchronised
 abbrev pub broadcastOrder : List Place
 broadcastOrder = tests (1 ∷ 22 ∷ 23 ∷ 41 ∷ 14 ∷ [])
 
 abbrev pub broadcastArrivalOrder : List Place
-broadcastArrivalOrder = tests (7 ∷ 36 ∷ 37 ∷ 38 ∷ 39 ∷ 40 ∷ 3 ∷ [])
-
-abbrev pub measureOrder : List Place
-measureOrder = tests (15 ∷ 16 ∷ 17 ∷ 18 ∷ 19 ∷ [])
+broadcastArrivalOrder = tests (7 ∷ 36 ∷ 37 ∷ 38 ∷ 39 ∷ 40 ∷ 3 ∷ 43 ∷ [])
 
 abbrev pub readOrder : List Place
 readOrder = tests (7 ∷ [])

@@ -7,7 +7,7 @@ use mathlib.Core.List.{List, [], _++_}
 use lib.IntN.{pos, negℤ}
 use lib.ListN.{length, drop}
 use lib.Signed.{_≤ℤ_}
-use Rattle.refusals.specs.Numbers.{buffer-too-short, packet-length-wrong, request-mode-wrong, request-version-unsupported, settings-out-of-range, server-timestamp-zero, answered-before-received}
+use Rattle.refusals.specs.Numbers.{buffer-too-short, packet-length-wrong, request-mode-wrong, request-version-unsupported, settings-out-of-range, server-timestamp-zero, answered-before-received, no-order}
 use Rattle.timestamp.specs.declared.Timestamp.{Timestamp}
 use Rattle.timestamp.specs.Timestamp.{_since_}
 use Rattle.packet.specs.declared.Fields.{Fields}
@@ -16,7 +16,7 @@ use Rattle.server_packet.specs.declared.Settings.{Settings}
 use Rattle.server.specs.declared.ReplyAnswer.{ReplyAnswer}
 use Rattle.server.specs.Server.{replyFields, replied, repliedBuffer}
 use Rattle.demands.specs.Form.{Shown, refusedBy, telling, Rules, _unless_then_, does, Form, Implementation}
-use Rattle.demands.specs.Common.{notAvailable, IsPacket, Written}
+use Rattle.demands.specs.Common.{notAvailable, InOrder, IsPacket, Written}
 
 pub record Request : Type 0 where
   pub settings : Settings
@@ -48,6 +48,7 @@ module _ (x : Request) where
       request-version-unsupported unless (1 ≤ f .version) × (f .version ≤ 4) then
       settings-out-of-range unless LegallySet (x .settings) then
       server-timestamp-zero unless (x .settings .synchronised ≡ true → (x .t2 ≢ notAvailable) × (x .t3 ≢ notAvailable)) then
+      no-order unless (x .settings .synchronised ≡ true → InOrder (x .t3 since x .t2)) then
       answered-before-received unless (x .settings .synchronised ≡ true → pos 0 ≤ℤ (x .t3 since x .t2)) then
       does written
 

@@ -9,7 +9,7 @@ use Rattle.demands.specs.Measure.{Four, P, Q, d}
 
 module _ (x : Four) where
   -- 15 to 18 pass
-  pub record Ordered : Type 0 where
+  pub record Before19 : Type 0 where
     pub arrived-after : pos 0 ≤ℤ (x .t4 since x .t1)
     pub within-limit : (x .t4 since x .t1) ≤ℤ pos (2 ^ 36)
     pub answered-after : pos 0 ≤ℤ (x .t3 since x .t2)
@@ -22,4 +22,4 @@ module _ (x : Four) where
     pub opposite : (P x <ℤ Q x) ↔ ((P x <ℤ pos 0) × (pos 0 ≤ℤ Q x))
 
 abbrev pub DifferentSides : Type 0
-DifferentSides = (x : Four) → Ordered x → Sides x
+DifferentSides = (x : Four) → Before19 x → Sides x

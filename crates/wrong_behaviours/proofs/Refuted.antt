@@ -1,5 +1,5 @@
 -- Each wrong program fails a demand.
-use Prim.Native.Nat.{ℕ, _^_}
+use Prim.Native.Nat.{ℕ, _^_, _+_}
 use mathlib.Core.Path.{refl, sym, ap, subst, _∙_}
 use mathlib.Core.Logic.{_≢_}
 use mathlib.Core.Bool.{Bool, true, false, not, _&&_}
@@ -16,8 +16,8 @@ use Rattle.arithmetic.specs.Octets.{octets}
 use Rattle.arithmetic.proofs.Integers.{integers, size, minus}
 use Rattle.refusals.specs.Numbers.{line-malformed}
 use Rattle.timestamp.specs.declared.Timestamp.{Timestamp}
-use Rattle.timestamp.specs.Timestamp.{timestamp, fromSeconds, _since_}
-use Rattle.offset.specs.Offset.{floorHalf, halfOf, offsetTests}
+use Rattle.timestamp.specs.Timestamp.{timestamp, fromSeconds, _since_, noOrder}
+use Rattle.offset.specs.Offset.{floorHalf, halfOf, offsetTests, measured}
 use Rattle.offset.specs.Halving.{twice}
 use Rattle.packet.specs.declared.FieldsAnswer.{FieldsAnswer}
 use Rattle.packet.specs.Packet.{fieldsOf, octetsOf}
@@ -66,7 +66,7 @@ use Rattle.demands.proofs.Form.{acceptance-shown, differs, unique}
 use Rattle.demands.proofs.Each.{each}
 use Rattle.demands.proofs.Witnesses.{orderly}
 use Rattle.wrong_behaviours.specs.Client.{refusing, alwaysWriting, anyVersion, sendingClock, takingNone, stayingWaiting, spending, alwaysStopping, neverStopping, kissFirst, anyOriginate, unsignedTimes, rootUntested, negativeDelayUntested, dispersionSigned, rootSwapped, rootAfter15, fixing, measuring, zeroOffset, hugeDelay, halfLost, largeHalf, towardZero, halvedApart}
-use Rattle.wrong_behaviours.specs.Others.{preferringFirst, forgettingUse, answeringZero, neverReplying, wrongOriginate, fourthYearDates, fourthYearTimestamps, roundedDown, takingEntries, payingAll, refusingLines, droppingDigits, startingAfresh}
+use Rattle.wrong_behaviours.specs.Others.{preferringFirst, forgettingUse, answeringZero, neverReplying, wrongOriginate, measuringHalfCircle, reversingHalfCircle, tellingHalfCircle, fourthYearDates, fourthYearTimestamps, roundedDown, takingEntries, payingAll, refusingLines, droppingDigits, startingAfresh}
 use Rattle.wrong_behaviours.specs.Refuted.{withClient, withServer, Fails1, Fails2, Fails3, Refuted}
 use Rattle.wrong_behaviours.proofs.Exchanges.{slowBack, slowOut, bothOdd, otherServer, waiting, request, replied, with-root, with-kiss, tells-other, near, inBound, concluded, in-bound}
 
@@ -152,15 +152,15 @@ number o = clients.client .shown o .number
 
 module _ (f : Implementation clients.client) where
   back : T (tells-other (negsuc 1003) 1 (pos 7) (f (replied slowBack))) → Fails2 client f
-  unfolding arrived arrivals.arrivalAnswer waitingTests checkTests offsetTests _since_ difference signed _modulo_ floorHalf halfOf fieldsOf octetsOf octets requests.request illegal askTests afterAsk afterAskBuffer server.replied server.repliedBuffer server.replyTests requestTests server-packet.outOfRange server-packet.packetFields reading tooSoon gaveUp giveUpTests bits
+  unfolding arrived arrivals.arrivalAnswer waitingTests checkTests offsetTests _since_ difference signed _modulo_ noOrder floorHalf halfOf fieldsOf octetsOf octets requests.request illegal askTests afterAsk afterAskBuffer server.replied server.repliedBuffer server.replyTests requestTests server-packet.outOfRange server-packet.packetFields reading tooSoon gaveUp giveUpTests bits
   back seen = differs (each client .answers) (replied slowBack) (tells-other (negsuc 1003) 1 (pos 7)) seen tt
 
   odd : T (tells-other (negsuc 1002) 0 (pos 8) (f (replied bothOdd))) → Fails2 client f
-  unfolding arrived arrivals.arrivalAnswer waitingTests checkTests offsetTests _since_ difference signed _modulo_ floorHalf halfOf fieldsOf octetsOf octets requests.request illegal askTests afterAsk afterAskBuffer server.replied server.repliedBuffer server.replyTests requestTests server-packet.outOfRange server-packet.packetFields reading tooSoon gaveUp giveUpTests bits
+  unfolding arrived arrivals.arrivalAnswer waitingTests checkTests offsetTests _since_ difference signed _modulo_ noOrder floorHalf halfOf fieldsOf octetsOf octets requests.request illegal askTests afterAsk afterAskBuffer server.replied server.repliedBuffer server.replyTests requestTests server-packet.outOfRange server-packet.packetFields reading tooSoon gaveUp giveUpTests bits
   odd seen = differs (each client .answers) (replied bothOdd) (tells-other (negsuc 1002) 0 (pos 8)) seen tt
 
   over-2036 : T (tells-other (pos 43486543872) 0 (pos 3221225472) (f (replied replay))) → Fails2 client f
-  unfolding arrived arrivals.arrivalAnswer waitingTests checkTests offsetTests _since_ difference signed _modulo_ floorHalf halfOf fieldsOf octetsOf octets requests.request illegal askTests afterAsk afterAskBuffer server.replied server.repliedBuffer server.replyTests requestTests server-packet.outOfRange server-packet.packetFields reading tooSoon gaveUp giveUpTests bits
+  unfolding arrived arrivals.arrivalAnswer waitingTests checkTests offsetTests _since_ difference signed _modulo_ noOrder floorHalf halfOf fieldsOf octetsOf octets requests.request illegal askTests afterAsk afterAskBuffer server.replied server.repliedBuffer server.replyTests requestTests server-packet.outOfRange server-packet.packetFields reading tooSoon gaveUp giveUpTests bits
   over-2036 seen = differs (each client .answers) (replied replay) (tells-other (pos 43486543872) 0 (pos 3221225472)) seen tt
 
   -- a reply with root fields out of range, of which this number is told, and not by ours
@@ -196,7 +196,7 @@ abbrev accepted-ask : acceptance ≢ refusal
 accepted-ask = acceptance-shown .0
 
 pub refuted : Refuted
-unfolding broadcastArrived fieldTests outside anyIllegal firstRunning arrivedFor listAfterArrival rowOf arrived arrivals.arrivalAnswer waitingTests checkTests offsetTests _since_ difference signed _modulo_ floorHalf halfOf fieldsOf octetsOf octets requests.request illegal askTests afterAsk afterAskBuffer server.replied server.repliedBuffer server.replyTests requestTests server-packet.outOfRange server-packet.packetFields reading tooSoon gaveUp giveUpTests bits
+unfolding measured broadcastArrived fieldTests outside anyIllegal firstRunning arrivedFor listAfterArrival rowOf arrived arrivals.arrivalAnswer waitingTests checkTests offsetTests _since_ difference signed _modulo_ noOrder floorHalf halfOf fieldsOf octetsOf octets requests.request illegal askTests afterAsk afterAskBuffer server.replied server.repliedBuffer server.replyTests requestTests server-packet.outOfRange server-packet.packetFields reading tooSoon gaveUp giveUpTests bits
 refuted =
     let at-back = orderly slowBack tt in
     let at-out = orderly slowOut tt in
@@ -272,6 +272,11 @@ refuted =
       replies-anyway = λ demand.
           let x : Request = record { settings = settings; request = buffer; t2 = T2 slowBack; t3 = T3 slowBack; buffer = buffer } in
           subst (λ w. T (not (eqb (getD (w .octets) 0 0) 0))) (demand .unchanged x refl) tt;
+      half-circle-measured = differs (each behaviour.measure .answers) (record { t1 = timestamp 0; t2 = timestamp (2 ^ 63); t3 = timestamp (2 ^ 63); t4 = timestamp 0 }) (λ o. eqb (form behaviour.measure .shown o .number) 0) tt tt;
+      half-circle-reversed =
+          let x : Request = record { settings = settings; request = request slowBack .request; t2 = timestamp 1; t3 = timestamp (1 + 2 ^ 63); buffer = buffer } in
+          differs (each reply .answers) x (λ w. eqb (form reply .shown w .number) 17) tt tt;
+      half-circle-told = differs (each broadcastArrival .answers) (record { packet = fromBroadcast; t4 = timestamp (7 + 2 ^ 63) }) (λ a. eqb (form broadcastArrival .shown a .number) 0) tt tt;
       reads-nothing = differs (each behaviour.read .answers) (1 ∷ replicate 47 0) (λ o. not (has-mode 1 o)) tt tt;
       writes-nothing = differs (each behaviour.write .answers) (record { buffer = replicate 48 1; fields = fieldsOf buffer }) (λ w. eqb (getD (w .octets) 0 0) 1) tt tt;
       every-fourth-year = every-fourth-year;

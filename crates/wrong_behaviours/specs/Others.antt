@@ -3,13 +3,15 @@ use Prim.Native.Nat.{ℕ, suc, _+_, _-_, _/_, _%_, _^_}
 use mathlib.Core.Bool.{Bool, cond, not, _&&_, _||_}
 use mathlib.Core.List.{List, [], _∷_, _++_}
 use lib.Dec.{eqb, leb, ltb}
-use lib.IntN.{pos, _+ℤ_, _-ℤ_}
+use lib.IntN.{pos, negℤ, _+ℤ_, _-ℤ_}
 use lib.ListN.{length, take, drop, replicate}
+use lib.Signed.{ltZ}
 use Rattle.arithmetic.specs.Octets.{part}
-use Rattle.refusals.specs.Numbers.{packet-length-wrong, timestamp-zero, no-such-date, outside-window, tick-out-of-range, line-malformed}
+use Rattle.refusals.specs.Numbers.{packet-length-wrong, arrived-before-sent, arrived-too-late, answered-before-received, delay-negative, first-below-second, no-order, timestamp-zero, no-such-date, outside-window, tick-out-of-range, line-malformed}
 use Rattle.ordered_tests.specs.Tests.{_if_else_, otherwise, answer}
 use Rattle.timestamp.specs.declared.Timestamp.{Timestamp}
-use Rattle.timestamp.specs.Timestamp.{fromSeconds, fractionOf, isZero}
+use Rattle.timestamp.specs.Timestamp.{constants, fromSeconds, fractionOf, isZero, _since_, negative}
+use Rattle.offset.specs.declared.OffsetAnswer.{OffsetAnswer}
 use Rattle.packet.specs.declared.FieldsAnswer.{FieldsAnswer}
 use Rattle.packet.specs.Packet.{wrongLength, fieldsOf, octetsOf}
 use Rattle.calendar.specs.declared.Date.{Date}
@@ -33,6 +35,7 @@ use Rattle.frames.specs.Frames.{Parsed, call, malformed, parsed}
 use Rattle.demands.specs.Form.{Implementation}
 use Rattle.demands.specs.Associations as lists
 use Rattle.demands.specs.Associations.{ListInput, ListOutcome, associations}
+use Rattle.demands.specs.Measure.{P, Q, d, offset, half, measure}
 use Rattle.demands.specs.Reply as replies
 use Rattle.demands.specs.Reply.{Request, reply}
 use Rattle.demands.specs.Broadcast as broadcasts
@@ -91,6 +94,31 @@ zeroed (BroadcastAnswer.Difference d) = BroadcastAnswer.Difference (pos 0)
 
 abbrev pub answeringZero : Implementation broadcastArrival
 answeringZero x = zeroed (broadcasts.ours-arrival x)
+
+-- ---- half a circle apart taken for the lowest difference, -2^63, where ours says that there is no order
+
+abbrev pub measuringHalfCircle : Implementation measure
+measuringHalfCircle x = answer OffsetAnswer.Refused (
+    arrived-before-sent if negative (x .t4 since x .t1) else
+    arrived-too-late if ltZ (constants .limit) (x .t4 since x .t1) else
+    answered-before-received if negative (x .t3 since x .t2) else
+    delay-negative if negative (d x) else
+    first-below-second if ltZ (P x) (Q x) else
+    otherwise (OffsetAnswer.Measured (offset x) (half x) (d x)))
+
+abbrev reversed : ReplyAnswer → ReplyAnswer
+reversed (ReplyAnswer.Refused n) = ReplyAnswer.Refused (cond (eqb n no-order) answered-before-received n)
+reversed ReplyAnswer.Written = ReplyAnswer.Written
+
+abbrev pub reversingHalfCircle : Implementation reply
+reversingHalfCircle x = record { answer = reversed (replies.ours x .answer); octets = replies.ours x .octets }
+
+abbrev lowest : BroadcastAnswer → BroadcastAnswer
+lowest (BroadcastAnswer.Refused n) = cond (eqb n no-order) (BroadcastAnswer.Difference (negℤ (pos (2 ^ 63)))) (BroadcastAnswer.Refused n)
+lowest (BroadcastAnswer.Difference z) = BroadcastAnswer.Difference z
+
+abbrev pub tellingHalfCircle : Implementation broadcastArrival
+tellingHalfCircle x = lowest (broadcasts.ours-arrival x)
 
 -- ---- the packet: reader and writer refuse what ours refuse, and do nothing
 

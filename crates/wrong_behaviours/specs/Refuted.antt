@@ -17,7 +17,7 @@ use Rattle.demands.specs.Demand3.{Demand3}
 use Rattle.demands.specs.SingleServer.{NeverStops}
 use Rattle.demands.specs.Wire.{ClockUnseen}
 use Rattle.wrong_behaviours.specs.Client.{laterStart, refusing, alwaysWriting, anyVersion, sendingClock, takingNone, stayingWaiting, spending, alwaysStopping, neverStopping, kissFirst, anyOriginate, unsignedTimes, rootUntested, negativeDelayUntested, dispersionSigned, rootSwapped, rootAfter15, fixing, measuring, zeroOffset, hugeDelay, halfLost, largeHalf, towardZero, halvedApart}
-use Rattle.wrong_behaviours.specs.Others.{preferringFirst, forgettingUse, answeringZero, neverReplying, wrongOriginate, replyingAnyway, readingNothing, writingNothing, fourthYearDates, fourthYearTimestamps, roundedDown, refusingEntries, takingEntries, payingAll, refusingLines, droppingDigits, startingAfresh}
+use Rattle.wrong_behaviours.specs.Others.{preferringFirst, forgettingUse, answeringZero, neverReplying, wrongOriginate, replyingAnyway, measuringHalfCircle, reversingHalfCircle, tellingHalfCircle, readingNothing, writingNothing, fourthYearDates, fourthYearTimestamps, roundedDown, refusingEntries, takingEntries, payingAll, refusingLines, droppingDigits, startingAfresh}
 
 -- ours with this client
 abbrev clientOf : Implementation clients.client → (x : Operation) → Implementation (form x)
@@ -120,6 +120,10 @@ pub record Refuted : Type 0 where
   pub replies-anyway : Fails1 reply replyingAnyway
   -- the client of a broadcast
   pub always-0 : Fails2 broadcastArrival answeringZero
+  -- half a circle, in the three calls that test a difference
+  pub half-circle-measured : Fails2 measure measuringHalfCircle
+  pub half-circle-reversed : Fails2 reply reversingHalfCircle
+  pub half-circle-told : Fails2 broadcastArrival tellingHalfCircle
   -- the packet, the calendar, the precision octet
   pub reads-nothing : Fails2 read readingNothing
   pub writes-nothing : Fails2 write writingNothing
