@@ -4,7 +4,7 @@ use crate::client::{Client, EXPONENT_LEAST, EXPONENT_MOST, Phase, Request};
 use crate::kiss;
 use crate::packet::{self, Fields, LEAP_ALARM, MODE_SERVER};
 use crate::refusal::Refusal;
-use crate::timestamp::Timestamp;
+use crate::timestamp::{Difference, Timestamp};
 
 /// 16 s, in units of 2^-32 s.
 const ROUND_TRIP_MOST: i64 = 1 << 36;
@@ -115,22 +115,25 @@ fn check_server(reply: &Fields, t4: Timestamp) -> Result<(), Refusal> {
 
 #[inline(always)]
 fn measure(t1: Timestamp, t2: Timestamp, t3: Timestamp, t4: Timestamp) -> Result<Sample, Refusal> {
-    let round_trip = t4.since(t1);
-    let hold = t3.since(t2);
-    if round_trip < 0 {
-        return Err(Refusal::RoundTripNegative);
-    }
+    let round_trip = match t4.since(t1) {
+        Difference::Ahead(units) => units,
+        Difference::Behind(_) => return Err(Refusal::RoundTripNegative),
+        Difference::NoOrder => return Err(Refusal::NoOrder),
+    };
     if round_trip > ROUND_TRIP_MOST {
         return Err(Refusal::RoundTripTooLong);
     }
-    if hold < 0 {
-        return Err(Refusal::HoldNegative);
-    }
+    let hold = match t3.since(t2) {
+        Difference::Ahead(units) => units,
+        Difference::Behind(_) => return Err(Refusal::HoldNegative),
+        Difference::NoOrder => return Err(Refusal::NoOrder),
+    };
     let delay = round_trip - hold;
     if delay < 0 {
         return Err(Refusal::DelayNegative);
     }
-    let (first, second) = (t2.since(t1), t3.since(t4));
+    let first = t2.since(t1).units().ok_or(Refusal::NoOrder)?;
+    let second = t3.since(t4).units().ok_or(Refusal::NoOrder)?;
     if first < second {
         return Err(Refusal::OffsetOutOfRange);
     }
@@ -154,6 +157,8 @@ mod tests {
     use super::*;
 
     const SECOND: u64 = 1 << 32;
+    /// Half a circle from T1.
+    const FAR: u64 = SECOND + (1 << 63);
 
     fn waiting() -> Client {
         Client {
@@ -324,11 +329,42 @@ mod tests {
     }
 
     #[test]
-    fn clocks_may_be_half_a_circle_apart() {
-        let t1 = SECOND;
-        let far = t1.wrapping_add(1 << 63);
+    fn clocks_may_be_nearly_half_a_circle_apart() {
+        let (t1, far) = (SECOND, FAR);
         assert_eq!(measured(far - 1, far - 1, t1), Ok((i64::MAX, 0, 0)));
-        assert_eq!(measured(far, far, t1), Ok((i64::MIN, 0, 0)));
-        assert_eq!(measured(far, far, t1 + 1), Err(19));
+        assert_eq!(measured(far, far, t1), Err(43));
+        assert_eq!(measured(far, far, t1 + 1), Err(43));
+        assert_eq!(measured(far + 1, far + 1, t1), Ok((-i64::MAX, 0, 0)));
+        assert_eq!(measured(far + 1, far + 1, t1 + 1), Err(43));
+        assert_eq!(measured(far + 1, far + 1, t1 + 2), Err(19));
+        assert_eq!(measured(far + 2, far + 2, t1 + 1), Ok((-i64::MAX, 1, 1)));
+    }
+
+    #[test]
+    fn round_trip_and_hold_of_half_a_circle_have_no_order() {
+        let (t1, far) = (SECOND, FAR);
+        assert_eq!(measured(t1, t1, far - 1), Err(16));
+        assert_eq!(measured(t1, t1, far), Err(43));
+        assert_eq!(measured(t1, t1, far + 1), Err(15));
+        assert_eq!(measured(t1, far - 1, t1), Err(18));
+        assert_eq!(measured(t1, far, t1), Err(43));
+        assert_eq!(measured(t1, far + 1, t1), Err(17));
+    }
+
+    #[test]
+    fn no_order_keeps_its_places_among_the_tests() {
+        let (t1, far) = (SECOND, FAR);
+        assert_eq!(measured(t1, far, t1 - 1), Err(15));
+        assert_eq!(measured(t1, far, t1 + (1 << 36) + 1), Err(16));
+        assert_eq!(measured(far, far - 1, t1), Err(17));
+        assert_eq!(measured(far, far + 6, t1 + 5), Err(18));
+        assert_eq!(measured(far - 1, far + 5, t1 + 5), Err(18));
+        assert_eq!(measured(t1, t1 - 1, far), Err(43));
+        let late_root = Fields {
+            root_dispersion: 65536,
+            ..reply()
+        };
+        assert_eq!(number(&late_root, far), 34);
+        assert_eq!(number(&reply(), far), 43);
     }
 }

@@ -30,6 +30,7 @@ pub enum Refusal {
     RootDelay = 33,
     RootDispersion = 34,
     TokenZero = 42,
+    NoOrder = 43,
 }
 
 impl Refusal {

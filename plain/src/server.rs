@@ -2,7 +2,7 @@
 
 use crate::packet::{self, Fields, LEAP_ALARM, MODE_CLIENT, MODE_SERVER};
 use crate::refusal::Refusal;
-use crate::timestamp::Timestamp;
+use crate::timestamp::{Difference, Timestamp};
 
 const INIT: u32 = u32::from_be_bytes(*b"INIT");
 
@@ -61,8 +61,10 @@ fn synchronised(
     if received.is_zero() || answered.is_zero() {
         return Err(Refusal::ReceiveOrTransmitZero);
     }
-    if answered.since(received) < 0 {
-        return Err(Refusal::HoldNegative);
+    match answered.since(received) {
+        Difference::Ahead(_) => {}
+        Difference::Behind(_) => return Err(Refusal::HoldNegative),
+        Difference::NoOrder => return Err(Refusal::NoOrder),
     }
     Ok(Fields {
         leap: settings.leap,
@@ -189,6 +191,23 @@ mod tests {
         assert_eq!(number(&SETTINGS, &request(), 5, 0), 14);
         assert_eq!(number(&SETTINGS, &request(), 5, 4), 17);
         assert_eq!(number(&SETTINGS, &request(), u64::MAX, 4), 0);
+    }
+
+    #[test]
+    fn a_hold_of_half_a_circle_has_no_order() {
+        let half = 1 << 63;
+        let numbers = |t2: u64, t3: u64| {
+            let unsynchronised = Settings {
+                synchronised: false,
+                ..SETTINGS
+            };
+            [SETTINGS, unsynchronised].map(|set| number(&set, &request(), t2, t3))
+        };
+        assert_eq!(numbers(5, half + 4), [0, 0]);
+        assert_eq!(numbers(5, half + 5), [43, 0]);
+        assert_eq!(numbers(half + 5, 5), [43, 0]);
+        assert_eq!(numbers(5, half + 6), [17, 0]);
+        assert_eq!(numbers(0, half), [14, 0]);
     }
 
     #[test]

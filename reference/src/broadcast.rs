@@ -34,7 +34,8 @@ pub fn arrival(packet: &[u8], t4: u64) -> Result<i64, Refusal> {
     BroadcastStratumWrong.when(!(1..=15).contains(&fields.stratum))?;
     BroadcastTransmitZero.when(fields.transmit == 0)?;
     OwnClockZero.when(t4 == 0)?;
-    Ok(timestamp::difference(fields.transmit, t4) as i64)
+    let difference = timestamp::ordered_difference(fields.transmit, t4)?;
+    Ok(difference as i64)
 }
 
 #[cfg(test)]
@@ -107,6 +108,9 @@ mod tests {
         octets
     }
 
+    /// Half a circle from 1.
+    const FAR: u64 = (1 << 63) + 1;
+
     #[test]
     fn order_of_the_client() {
         assert_eq!(arrival(&packet_of(0xC4, 0, 0)[..47], 0), Err(PacketLengthWrong));
@@ -122,6 +126,10 @@ mod tests {
         assert_eq!(number(0xA5, 16, 0, 0), BroadcastStratumWrong);
         assert_eq!(number(0xA5, 15, 0, 0), BroadcastTransmitZero);
         assert_eq!(number(0xA5, 15, 1, 0), OwnClockZero);
+        assert_eq!(number(0xA5, 16, 1, FAR), BroadcastStratumWrong);
+        assert_eq!(number(0xA5, 15, 0, 1 << 63), BroadcastTransmitZero);
+        assert_eq!(number(0xA5, 15, 1 << 63, 0), OwnClockZero);
+        assert_eq!(number(0xA5, 15, 1, FAR), NoOrder);
     }
 
     #[test]
@@ -131,8 +139,11 @@ mod tests {
         assert_eq!(given(1, 2), Ok(-1));
         assert_eq!(given(1, u64::MAX), Ok(2));
         assert_eq!(given(u64::MAX, 1), Ok(-2));
-        assert_eq!(given(1 << 63, 1), Ok(i64::MAX));
-        assert_eq!(given((1 << 63) + 1, 1), Ok(i64::MIN));
-        assert_eq!(given(1, (1 << 63) + 1), Ok(i64::MIN));
+        assert_eq!(given(FAR - 1, 1), Ok(i64::MAX));
+        assert_eq!(given(FAR, 1), Err(NoOrder));
+        assert_eq!(given(FAR + 1, 1), Ok(-i64::MAX));
+        assert_eq!(given(1, FAR - 1), Ok(-i64::MAX));
+        assert_eq!(given(1, FAR), Err(NoOrder));
+        assert_eq!(given(1, FAR + 1), Ok(i64::MAX));
     }
 }

@@ -46,13 +46,14 @@ pub enum Refusal {
     BroadcastTransmitZero = 40,
     PollOutOfRange = 41,
     TokenZero = 42,
+    NoOrder = 43,
     LineMalformed = 64,
 }
 
 use Refusal::*;
 
 /// All refusals, in the order of their numbers.
-const ALL: [Refusal; 43] = [
+const ALL: [Refusal; 44] = [
     BufferTooShort,
     VersionUnsupported,
     OwnClockZero,
@@ -95,6 +96,7 @@ const ALL: [Refusal; 43] = [
     BroadcastTransmitZero,
     PollOutOfRange,
     TokenZero,
+    NoOrder,
     LineMalformed,
 ];
 
@@ -149,7 +151,7 @@ mod tests {
     #[test]
     fn numbers_there_and_back() {
         for number in 0..=255 {
-            let known = (1..=42).contains(&number) || number == 64;
+            let known = (1..=43).contains(&number) || number == 64;
             let back = Refusal::of_number(number).map(Refusal::number);
             assert_eq!(back, known.then_some(number));
         }

@@ -35,7 +35,7 @@ pub fn reply(
     settings.test()?;
     if settings.synchronised {
         ServerTimestampZero.when(t2 == 0 || t3 == 0)?;
-        AnsweredBeforeReceived.when(timestamp::difference(t3, t2) < 0)?;
+        AnsweredBeforeReceived.when(timestamp::ordered_difference(t3, t2)? < 0)?;
     }
     packet::write(&reply_fields(settings, t2, t3, &request), buffer)
 }
@@ -141,6 +141,27 @@ mod tests {
         assert_eq!(number(&SET, 5, 0, &r), ServerTimestampZero);
         assert_eq!(number(&SET, 6, 5, &r), AnsweredBeforeReceived);
         assert_eq!(buffer, [0x77; 48]);
+    }
+
+    #[test]
+    fn holds_about_half_a_circle() {
+        let half = 1 << 63;
+        let number = |set, t2, t3| reply(set, t2, t3, &request(0x23), &mut [0; 48]).err();
+        for t2 in [1, 5, half - 5, half + 5, u64::MAX] {
+            let far = t2.wrapping_add(half);
+            for (t3, wanted) in [
+                (far.wrapping_sub(1), None),
+                (far, Some(NoOrder)),
+                (far.wrapping_add(1), Some(AnsweredBeforeReceived)),
+            ] {
+                assert_eq!(number(&SET, t2, t3), wanted);
+                assert_eq!(number(&UNSYNCHRONISED, t2, t3), None);
+            }
+        }
+        let bad = Settings { leap: 3, ..SET };
+        assert_eq!(number(&bad, 1, half + 1), Some(SettingsOutOfRange));
+        assert_eq!(number(&SET, 0, half), Some(ServerTimestampZero));
+        assert_eq!(number(&SET, half, 0), Some(ServerTimestampZero));
     }
 
     #[test]

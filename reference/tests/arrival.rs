@@ -8,6 +8,8 @@ use reference::refusal::Refusal::{self, *};
 use reference::timestamp::Measured;
 
 const T: u64 = 1 << 32;
+/// Half a circle from T.
+const FAR: u64 = T + (1 << 63);
 
 const TOKEN: u64 = 0x0123_4567_89AB_CDEF;
 
@@ -121,9 +123,33 @@ fn timestamps() {
     assert_eq!(outcome(back, T), Refused(AnsweredBeforeReceived));
     let long = Fields { transmit: T + 6, ..GOOD };
     assert_eq!(outcome(long, T + 5), Refused(DelayNegative));
-    let half_circle = Fields { receive: T + (1 << 63), transmit: T + (1 << 63), ..GOOD };
-    assert_eq!(outcome(half_circle, T), Accepted);
-    assert_eq!(outcome(half_circle, T + 1), Refused(FirstBelowSecond));
+    let past_half = Fields { receive: FAR + 1, transmit: FAR + 1, ..GOOD };
+    assert_eq!(outcome(past_half, T), Accepted);
+    assert_eq!(outcome(past_half, T + 2), Refused(FirstBelowSecond));
+}
+
+#[test]
+fn no_order() {
+    let with = |receive, transmit, t4| outcome(Fields { receive, transmit, ..GOOD }, t4);
+    assert_eq!(with(T, T, FAR), Refused(NoOrder));
+    assert_eq!(with(T, FAR, T), Refused(NoOrder));
+    assert_eq!(with(FAR, FAR, T), Refused(NoOrder));
+    assert_eq!(with(FAR + 1, FAR + 1, T + 1), Refused(NoOrder));
+}
+
+#[test]
+fn earlier_tests_come_before_no_order() {
+    let with = |receive, transmit, t4| outcome(Fields { receive, transmit, ..GOOD }, t4);
+    assert_eq!(with(0, T, FAR), Refused(ServerTimestampZero));
+    assert_eq!(with(T, FAR, T - 1), Refused(ArrivedBeforeSent));
+    assert_eq!(with(T, FAR, T + (1 << 36) + 1), Refused(ArrivedTooLate));
+    assert_eq!(with(FAR, FAR - 1, T), Refused(AnsweredBeforeReceived));
+    assert_eq!(with(FAR, FAR + 6, T + 5), Refused(DelayNegative));
+    assert_eq!(outcome(Fields { stratum: 0, ..GOOD }, FAR), Kiss(0));
+    let mut octets = [0; 48];
+    packet::write(&GOOD, &mut octets).unwrap();
+    let client = Client { t1: 1 << 63, ..WAITING };
+    assert_eq!(arrival(&client, &octets, 0, false), Err(OwnClockZero));
 }
 
 #[test]
@@ -181,13 +207,16 @@ fn root_fields_come_after() {
 
 #[test]
 fn root_fields_come_before_timestamps() {
-    let half_circle = T + (1 << 63);
     let later = [
+        (T, T, FAR, NoOrder),
+        (T, FAR, T, NoOrder),
+        (FAR, FAR, T, NoOrder),
+        (FAR + 1, FAR + 1, T + 1, NoOrder),
         (T, T, T - 1, ArrivedBeforeSent),
         (T, T, T + (1 << 36) + 1, ArrivedTooLate),
         (T, T - 1, T, AnsweredBeforeReceived),
         (T, T + 6, T + 5, DelayNegative),
-        (half_circle, half_circle, T + 1, FirstBelowSecond),
+        (FAR + 1, FAR + 1, T + 2, FirstBelowSecond),
     ];
     for (receive, transmit, t4, refusal) in later {
         let with = |root_delay, root_dispersion| {

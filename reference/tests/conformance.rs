@@ -36,6 +36,33 @@ fn measures() {
     );
     assert_eq!(one(&format!("02{t}{t}{t}0000001100000001")), "10");
     assert_eq!(one(&format!("02{t}{t}{t}00000000FFFFFFFF")), "0F");
+    assert_eq!(one(&format!("02{t}{t}{t}8000000100000000")), "2B");
+}
+
+#[test]
+fn differences() {
+    let difference = |x: u64, y: u64| one(&format!("01{x:016X}{y:016X}"));
+    let half = 1 << 63;
+    assert_eq!(difference(0, 0), "000000000000000000");
+    for (far, y) in [(half, 0), (0, half), (half + 1, 1), (half - 1, u64::MAX)] {
+        assert_eq!(difference(far, y), "01");
+        assert_eq!(difference(y, far), "01");
+        assert_eq!(difference(far.wrapping_sub(1), y), "007FFFFFFFFFFFFFFF");
+        assert_eq!(difference(far.wrapping_add(1), y), "008000000000000001");
+    }
+}
+
+#[test]
+fn holds_of_a_server() {
+    let reply = |set: &str, t2: &str, t3: &str| {
+        let head = format!("0B{set}00EC47505300{}{t2}{t3}30", "00".repeat(8));
+        one(&format!("{head}23{}", "00".repeat(47)))[..2].to_string()
+    };
+    let [t2, below, half, above] =
+        ["0000000000000001", "8000000000000000", "8000000000000001", "8000000000000002"];
+    assert_eq!([below, half, above].map(|t3| reply("01", t2, t3)), ["00", "2B", "11"]);
+    assert_eq!([below, half, above].map(|t3| reply("00", t2, t3)), ["00"; 3]);
+    assert_eq!(reply("01", "0000000000000000", below), "0E");
 }
 
 #[test]
@@ -124,6 +151,8 @@ fn arrivals() {
         assert_eq!(text, format!("01000000000A200000000000000000C00000000000000000{IDLE}"));
         let text = one(&format!("09{WAITING}0000000000000000{alternate}{REPLY}"));
         assert_eq!(text, format!("0003{}{WAITING}", "00".repeat(22)));
+        let text = one(&format!("09{WAITING}7FFFFFFA00000000{alternate}{REPLY}"));
+        assert_eq!(text, format!("002B{}{WAITING}", "00".repeat(22)));
         let t1 = REPLY.replace(TOKEN, "FFFFFFFA00000000");
         let text = one(&format!("09{WAITING}FFFFFFFBC0000000{alternate}{t1}"));
         assert_eq!(text, format!("0009{}{WAITING}", "00".repeat(22)));
@@ -298,6 +327,9 @@ fn broadcasts_arriving() {
     assert_eq!(arrival(t4, &packet.replacen("2501", "2510", 1)), "27");
     assert_eq!(arrival(t4, &packet.replace("0000000580000000", "0000000000000000")), "28");
     assert_eq!(arrival("0000000000000000", &packet), "03");
+    assert_eq!(arrival("8000000580000001", &packet), "007FFFFFFFFFFFFFFF");
+    assert_eq!(arrival("8000000580000000", &packet), "2B");
+    assert_eq!(arrival("800000057FFFFFFF", &packet), "008000000000000001");
 }
 
 #[test]

@@ -70,6 +70,11 @@ fn broadcasts_that_are_missing_are_found() {
 }
 
 #[test]
+fn differences_that_are_missing_are_found() {
+    assert_eq!(missing_without("01"), ["01 00", "01 no-order"]);
+}
+
+#[test]
 fn sums_that_are_missing_are_found() {
     assert_eq!(missing_without("F28000000000000000"), ["F2 P=Q=-2^63", "F2 P=-2^63"]);
 }
@@ -111,6 +116,12 @@ fn replays_that_miss_a_kiss_row_are_found() {
 fn replays_that_miss_a_zero_token_are_found() {
     let without = |answers: String| answers.replace("2A\n", "06\n");
     assert_eq!(missing_in_replay(1, without), ["A1 42"]);
+}
+
+#[test]
+fn replays_that_miss_no_order_are_found() {
+    let without = |answers: String| answers.replace("2B\n", "13\n");
+    assert_eq!(missing_in_replay(1, without), ["A2 43"]);
 }
 
 /// What counting one line and one answer says.

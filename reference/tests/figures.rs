@@ -4,7 +4,7 @@ use reference::arrival::{Told, arrival};
 use reference::associations::Associations;
 use reference::client::{Client, FRESH, Phase, Token};
 use reference::packet::{self, Fields};
-use reference::refusal::Refusal::{self, FirstBelowSecond};
+use reference::refusal::Refusal::{self, FirstBelowSecond, NoOrder};
 use reference::timestamp::{Measured, measure};
 use reference::{ledger, replay};
 
@@ -15,19 +15,23 @@ const HALF: u64 = 1 << 63;
 type Figure = Result<(i64, u8, i64), Refusal>;
 
 /// What comes of T2 = T3 = T1 + x and T4 = T1 + y.
-const FIGURES: [(u64, u64, Figure); 12] = [
+const FIGURES: [(u64, u64, Figure); 16] = [
     (QUARTER - 1, 0, Ok(((1 << 62) - 1, 0, 0))),
     (QUARTER, 0, Ok((1 << 62, 0, 0))),
     (3 * QUARTER, 0, Ok((-(1 << 62), 0, 0))),
     (3 * QUARTER, 1, Ok((-(1 << 62) - 1, 1, 1))),
     (HALF - 1, 0, Ok((i64::MAX, 0, 0))),
     (HALF - 1, 1, Ok((i64::MAX - 1, 1, 1))),
-    (HALF, 0, Ok((i64::MIN, 0, 0))),
-    (HALF, 1, Err(FirstBelowSecond)),
-    (HALF + 1, 1, Ok((i64::MIN, 1, 1))),
+    (HALF, 0, Err(NoOrder)),
+    (HALF, 1, Err(NoOrder)),
+    (HALF, 1 << 36, Err(NoOrder)),
+    (HALF + 1, 0, Ok((i64::MIN + 1, 0, 0))),
+    (HALF + 1, 1, Err(NoOrder)),
     (HALF + 1, 2, Err(FirstBelowSecond)),
-    (HALF + (1 << 36), 1 << 36, Ok((i64::MIN + (1 << 35), 0, 1 << 36))),
+    (HALF + 2, 1, Ok((i64::MIN + 1, 1, 1))),
     (HALF + (1 << 36) - 1, 1 << 36, Err(FirstBelowSecond)),
+    (HALF + (1 << 36), 1 << 36, Err(NoOrder)),
+    (HALF + (1 << 36) + 1, 1 << 36, Ok((i64::MIN + (1 << 35) + 1, 0, 1 << 36))),
 ];
 
 /// Calls with T1, T2 = T3, T4 and what is wanted, for several T1.

@@ -15,12 +15,17 @@ use offset::OffsetAnswer;
 use precision::PrecisionAnswer;
 use slices::read_be32;
 use slices::read_be64;
+use timestamp::Difference;
 use timestamp::Timestamp;
 use twos_complement::bits8;
 use twos_complement::bits64;
 
+// 01 alone says that there is no order.
 pub(crate) fn difference(line: &[u8]) -> Numbers {
-    given(bits64(timestamp(line, 1).minus(timestamp(line, 9))))
+    match timestamp(line, 1).minus(timestamp(line, 9)) {
+        Difference::NoOrder => one(1),
+        Difference::Units(units) => given(bits64(units)),
+    }
 }
 
 fn measured(answer: OffsetAnswer) -> Numbers {

@@ -51,9 +51,17 @@ pub fn put_answer(call: &Call, out: &mut Vec<u8>) {
     }
 }
 
+/// The whole answer where two timestamps are half a circle apart.
+pub const NO_ORDER: u8 = 1;
+
 fn put_difference(x: u64, y: u64, out: &mut Vec<u8>) {
-    out.push(0);
-    put_numbers([timestamp::difference(x, y) as u64], out);
+    match timestamp::difference(x, y) {
+        Some(difference) => {
+            out.push(0);
+            put_numbers([difference as u64], out);
+        }
+        None => out.push(NO_ORDER),
+    }
 }
 
 fn put_measured([t1, t2, t3, t4]: [u64; 4], out: &mut Vec<u8>) {

@@ -8,6 +8,7 @@ mod ledger;
 mod lists;
 mod plain;
 mod server;
+mod timestamps;
 
 use super::outcome::Outcome;
 use crate::conformance::call::Call;
@@ -77,7 +78,8 @@ impl Boundaries {
         let m = self.marks.entry(call.operation()).or_default();
         m.at = 0;
         match *call {
-            Call::Measure { t1, t2, t3, t4 } => plain::measure(m, [t1, t2, t3, t4], outcome),
+            Call::Difference { x, y } => timestamps::differences(m, x, y, outcome),
+            Call::Measure { t1, t2, t3, t4 } => timestamps::measure(m, [t1, t2, t3, t4], outcome),
             Call::ReadFields { packet } => plain::read_fields(m, packet.len(), outcome),
             Call::WriteFields { n, ref fields } => plain::write_fields(m, n, fields, outcome),
             Call::DateOfTimestamp { timestamp } => calendar::timestamp(m, timestamp, answer),
@@ -102,8 +104,8 @@ impl Boundaries {
             Call::Tick { debt, limit } => ledger::tick(m, debt, limit, answer, outcome, run),
             Call::OfList(ref call) => lists::list_call(m, call, answer, outcome),
             Call::OfBroadcast(ref call) => broadcast::broadcast_call(m, call, outcome),
-            Call::Halve { first, second } => plain::halve(m, first.into(), second.into()),
-            Call::Difference { .. } | Call::Fresh | Call::Constants => {}
+            Call::Halve { first, second } => timestamps::halve(m, first.into(), second.into()),
+            Call::Fresh | Call::Constants => {}
         }
     }
 

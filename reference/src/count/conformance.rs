@@ -2,6 +2,7 @@
 
 use super::outcome::Outcome;
 use super::{Counter, Pair, Row};
+use crate::conformance::answer::NO_ORDER;
 use crate::conformance::call::{ALTERNATE_AT, ASKED_AT, Call, Malformed, lengths};
 use crate::conformance::list_call::{COUNT_AT, LARGEST_COUNT};
 use crate::hex_lines::value;
@@ -10,7 +11,7 @@ use crate::refusal::Refusal::{self, *};
 
 /// Each number that each call can give, beside 00. Calls for a record of a list have one more.
 const REFUSALS: [(u8, &[Refusal]); 21] = [
-    (0x01, &[]),
+    (DIFFERENCE, &[]),
     (0x02, &MEASURE_REFUSALS),
     (0x03, &[PacketLengthWrong]),
     (0x04, &[BufferTooShort, FieldTooLarge]),
@@ -33,8 +34,14 @@ const REFUSALS: [(u8, &[Refusal]); 21] = [
     (0xF2, &[]),
 ];
 
-const MEASURE_REFUSALS: [Refusal; 5] =
-    [ArrivedBeforeSent, ArrivedTooLate, AnsweredBeforeReceived, DelayNegative, FirstBelowSecond];
+const MEASURE_REFUSALS: [Refusal; 6] = [
+    NoOrder,
+    ArrivedBeforeSent,
+    ArrivedTooLate,
+    AnsweredBeforeReceived,
+    DelayNegative,
+    FirstBelowSecond,
+];
 
 const ASK_REFUSALS: [Refusal; 8] = [
     RecordNotLegal,
@@ -47,7 +54,7 @@ const ASK_REFUSALS: [Refusal; 8] = [
     AskedTooSoon,
 ];
 
-const ARRIVAL_REFUSALS: [Refusal; 17] = [
+const ARRIVAL_REFUSALS: [Refusal; 18] = [
     RecordNotLegal,
     PacketLengthWrong,
     NotWaiting,
@@ -60,6 +67,7 @@ const ARRIVAL_REFUSALS: [Refusal; 17] = [
     ServerTimestampZero,
     RootDelayOutOfRange,
     RootDispersionTooLarge,
+    NoOrder,
     ArrivedBeforeSent,
     ArrivedTooLate,
     AnsweredBeforeReceived,
@@ -69,13 +77,14 @@ const ARRIVAL_REFUSALS: [Refusal; 17] = [
 
 const GIVE_UP_REFUSALS: [Refusal; 3] = [RecordNotLegal, NotWaiting, GaveUpTooSoon];
 
-const REPLY_REFUSALS: [Refusal; 7] = [
+const REPLY_REFUSALS: [Refusal; 8] = [
     BufferTooShort,
     PacketLengthWrong,
     RequestModeWrong,
     RequestVersionUnsupported,
     SettingsOutOfRange,
     ServerTimestampZero,
+    NoOrder,
     AnsweredBeforeReceived,
 ];
 
@@ -87,7 +96,7 @@ const BROADCAST_WRITE_REFUSALS: [Refusal; 5] = [
     ServerTimestampZero,
 ];
 
-const BROADCAST_ARRIVAL_REFUSALS: [Refusal; 7] = [
+const BROADCAST_ARRIVAL_REFUSALS: [Refusal; 8] = [
     PacketLengthWrong,
     BroadcastModeWrong,
     BroadcastVersionUnsupported,
@@ -95,6 +104,7 @@ const BROADCAST_ARRIVAL_REFUSALS: [Refusal; 7] = [
     BroadcastStratumWrong,
     BroadcastTransmitZero,
     OwnClockZero,
+    NoOrder,
 ];
 
 /// All malformed lines and their kinds; by themselves also the wrong lengths of the client's, the
@@ -145,12 +155,9 @@ const MALFORMED: [&str; 42] = [
     "-count-10",
 ];
 
+const DIFFERENCE: u8 = 0x01;
 const ARRIVAL: u8 = 0x09;
 const LIST_ARRIVAL: u8 = 0x0F;
-
-fn is_arrival(operation: u8) -> bool {
-    matches!(operation, ARRIVAL | LIST_ARRIVAL)
-}
 
 /// Whether a call is for a record of a list.
 fn is_of_list(operation: u8) -> bool {
@@ -159,11 +166,13 @@ fn is_of_list(operation: u8) -> bool {
 
 /// The outcomes of a call that is not refused.
 fn passed(operation: u8) -> Vec<Outcome> {
-    if is_arrival(operation) {
-        let kisses = (0..=CODES.len()).map(|row| Outcome::Kiss(row as u8));
-        kisses.chain([Outcome::Accepted]).collect()
-    } else {
-        vec![Outcome::Done]
+    match operation {
+        DIFFERENCE => vec![Outcome::Done, Outcome::NoOrder],
+        ARRIVAL | LIST_ARRIVAL => {
+            let kisses = (0..=CODES.len()).map(|row| Outcome::Kiss(row as u8));
+            kisses.chain([Outcome::Accepted]).collect()
+        }
+        _ => vec![Outcome::Done],
     }
 }
 
@@ -185,12 +194,27 @@ fn wanted() -> impl Iterator<Item = Row> {
 }
 
 fn outcome(call: &Call, answer: &[u8]) -> Option<Outcome> {
-    match (is_arrival(call.operation()), answer) {
-        (true, [0, number, ..]) => Refusal::of_number(*number).map(Outcome::Refused),
-        (true, [1, 0, ..]) => Some(Outcome::Accepted),
+    match call.operation() {
+        DIFFERENCE => difference_outcome(answer),
+        ARRIVAL | LIST_ARRIVAL => arrival_outcome(answer),
+        _ => Outcome::of_number(*answer.first()?),
+    }
+}
+
+fn difference_outcome(answer: &[u8]) -> Option<Outcome> {
+    match answer {
+        [0, ..] => Some(Outcome::Done),
+        [NO_ORDER] => Some(Outcome::NoOrder),
+        _ => None,
+    }
+}
+
+fn arrival_outcome(answer: &[u8]) -> Option<Outcome> {
+    match answer {
+        [0, number, ..] => Refusal::of_number(*number).map(Outcome::Refused),
+        [1, 0, ..] => Some(Outcome::Accepted),
         // The row stands after offset, half, delay and code.
-        (true, [2, 0, rest @ ..]) => rest.get(8 + 1 + 8 + 4).map(|&row| Outcome::Kiss(row)),
-        (false, [number, ..]) => Outcome::of_number(*number),
+        [2, 0, rest @ ..] => rest.get(8 + 1 + 8 + 4).map(|&row| Outcome::Kiss(row)),
         _ => None,
     }
 }

@@ -7,6 +7,8 @@ use std::fmt::{Display, Formatter, Result};
 pub enum Outcome {
     /// Not refused, of every call but an arrival.
     Done,
+    /// A difference of timestamps that are half a circle apart.
+    NoOrder,
     Refused(Refusal),
     /// An arrival that was accepted.
     Accepted,
@@ -41,6 +43,7 @@ impl Display for Outcome {
     fn fmt(&self, out: &mut Formatter<'_>) -> Result {
         match self {
             Outcome::Done => write!(out, "00"),
+            Outcome::NoOrder => write!(out, "no-order"),
             Outcome::Refused(refusal) => write!(out, "{:02}", refusal.number()),
             Outcome::Accepted => write!(out, "accepted"),
             Outcome::Kiss(row) => write!(out, "kiss-{row:02}"),

@@ -9,7 +9,7 @@ use crate::replay::{ARRIVAL, ASK, BEFORE_PACKET, GIVE_UP, KISS};
 /// A replayed client is never stopped.
 const ASK_REFUSALS: [Refusal; 4] = [OwnClockZero, TokenZero, AlreadyWaiting, AskedTooSoon];
 
-const ARRIVAL_REFUSALS: [Refusal; 16] = [
+const ARRIVAL_REFUSALS: [Refusal; 17] = [
     PacketLengthWrong,
     NotWaiting,
     OriginateMismatch,
@@ -21,6 +21,7 @@ const ARRIVAL_REFUSALS: [Refusal; 16] = [
     ServerTimestampZero,
     RootDelayOutOfRange,
     RootDispersionTooLarge,
+    NoOrder,
     ArrivedBeforeSent,
     ArrivedTooLate,
     AnsweredBeforeReceived,

@@ -61,8 +61,8 @@ pub fn ask(r: &mut Random, line: &mut Vec<u8>) {
     Call::Ask { client, arguments }.put(line);
 }
 
-/// Kisses, the originate test and the last two tests occur more often.
-const FAULTS: [Fault; 21] = [
+/// Kisses, the originate test and the last tests occur more often.
+const FAULTS: [Fault; 23] = [
     Fault::By(PacketLengthWrong),
     Fault::By(OriginateMismatch),
     Fault::By(OriginateMismatch),
@@ -84,6 +84,8 @@ const FAULTS: [Fault; 21] = [
     Fault::By(DelayNegative),
     Fault::By(FirstBelowSecond),
     Fault::By(FirstBelowSecond),
+    Fault::By(NoOrder),
+    Fault::By(NoOrder),
 ];
 
 /// An arrival's T4 and packet.

@@ -9,6 +9,9 @@ use crate::random::Random;
 use crate::refusal::Refusal::{self, *};
 use crate::timestamp::{LIMIT, SECOND};
 
+/// Half the circle.
+const HALF: u64 = 1 << 63;
+
 /// What a reply is changed to have: it is a kiss, or refused.
 #[derive(Clone, Copy, PartialEq, Eq, Debug)]
 pub enum Fault {
@@ -70,8 +73,8 @@ fn backward(r: &mut Random) -> u64 {
     match r.below(5) {
         0 | 1 => 1,
         2 => 1 + r.below(SECOND),
-        3 => 1 << 63,
-        _ => 1 + r.below(1 << 63),
+        3 => HALF - 1,
+        _ => 1 + r.below(HALF - 1),
     }
 }
 
@@ -80,18 +83,19 @@ fn forward(r: &mut Random, least: u64) -> u64 {
     match r.below(5) {
         0 | 1 => least,
         2 => least + r.below(SECOND),
-        3 => (1 << 63) - 1,
-        _ => least + r.below((1 << 63) - least),
+        3 => HALF - 1,
+        _ => least + r.below(HALF - least),
     }
 }
 
-/// Units that P is above -2^63, fewer than the delay, so that Q lies across the half circle.
+/// Units that P is above -2^63, at least one and fewer than the delay, so that Q lies across the
+/// half circle.
 fn first_below_second(r: &mut Random, delay: u64) -> u64 {
     match r.below(4) {
-        0 => 0,
+        0 => 1,
         // Q is 2^63 - 1.
         1 => delay - 1,
-        _ => r.below(delay),
+        _ => 1 + r.below(delay - 1),
     }
 }
 
@@ -103,15 +107,33 @@ fn make_delay_negative(r: &mut Random, t1: u64, reply: &mut Reply) {
 fn make_first_below_second(r: &mut Random, t1: u64, reply: &mut Reply) {
     let fields = &mut reply.fields;
     let mut hold = fields.transmit.wrapping_sub(fields.receive);
-    // Without a delay P and Q are equal, so there must be one.
-    match reply.t4.wrapping_sub(t1) {
-        0 if hold == 0 => reply.t4 = t1.wrapping_add(1),
-        elapsed if elapsed == hold => hold -= 1,
+    // P and Q lie on different sides of the half circle only where the delay is two or more.
+    match reply.t4.wrapping_sub(t1).wrapping_sub(hold) {
+        0 | 1 if hold < 2 => reply.t4 = t1.wrapping_add(hold + 2),
+        0 | 1 => hold -= 2,
         _ => {}
     }
     let delay = reply.t4.wrapping_sub(t1).wrapping_sub(hold);
-    fields.receive = t1.wrapping_add(1 << 63).wrapping_add(first_below_second(r, delay));
+    fields.receive = t1.wrapping_add(HALF).wrapping_add(first_below_second(r, delay));
     fields.transmit = fields.receive.wrapping_add(hold);
+}
+
+/// Takes the order from T4 and T1, T3 and T2, T2 and T1, or T3 and T4; the last two keep the hold.
+fn make_half_circle_apart(r: &mut Random, t1: u64, reply: &mut Reply) {
+    let fields = &mut reply.fields;
+    let hold = fields.transmit.wrapping_sub(fields.receive);
+    match r.below(4) {
+        0 => reply.t4 = t1.wrapping_add(HALF),
+        1 => fields.transmit = fields.receive.wrapping_add(HALF),
+        2 => {
+            fields.receive = t1.wrapping_add(HALF);
+            fields.transmit = fields.receive.wrapping_add(hold);
+        }
+        _ => {
+            fields.transmit = reply.t4.wrapping_add(HALF);
+            fields.receive = fields.transmit.wrapping_sub(hold);
+        }
+    }
 }
 
 fn add_time_fault(r: &mut Random, refusal: Refusal, t1: u64, reply: &mut Reply) {
@@ -132,6 +154,7 @@ fn add_time_fault(r: &mut Random, refusal: Refusal, t1: u64, reply: &mut Reply) 
         AnsweredBeforeReceived => fields.transmit = fields.receive.wrapping_sub(backward(r)),
         DelayNegative => make_delay_negative(r, t1, reply),
         FirstBelowSecond => make_first_below_second(r, t1, reply),
+        NoOrder => make_half_circle_apart(r, t1, reply),
         _ => {}
     }
 }
@@ -184,7 +207,7 @@ mod tests {
         (reply.fields, arrival(&client, &octets_of(&reply.fields), reply.t4, r.one_in(2)))
     }
 
-    const REFUSALS: [Refusal; 14] = [
+    const REFUSALS: [Refusal; 15] = [
         OwnClockZero,
         OriginateMismatch,
         ReplyModeWrong,
@@ -199,6 +222,7 @@ mod tests {
         AnsweredBeforeReceived,
         DelayNegative,
         FirstBelowSecond,
+        NoOrder,
     ];
 
     #[test]
@@ -213,7 +237,7 @@ mod tests {
     #[test]
     fn replies_are_refused_by_their_fault() {
         let mut r = Random::new(3);
-        for refusal in REFUSALS.into_iter().cycle().take(28_000) {
+        for refusal in REFUSALS.into_iter().cycle().take(30_000) {
             let (fields, result) = arrived(&mut r, Some(Fault::By(refusal)));
             assert_eq!(result, Err(refusal), "{fields:?}");
         }

@@ -71,6 +71,6 @@ mod tests {
     #[test]
     fn there_are_enough() {
         let count = super::lines().len();
-        assert!((14_200..15_200).contains(&count), "{count}");
+        assert!((15_300..16_300).contains(&count), "{count}");
     }
 }

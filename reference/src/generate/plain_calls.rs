@@ -32,6 +32,8 @@ pub fn measure(r: &mut Random, line: &mut Vec<u8>) {
             AnsweredBeforeReceived,
             DelayNegative,
             FirstBelowSecond,
+            NoOrder,
+            NoOrder,
         ]);
         add_fault(r, Fault::By(refusal), &client, &mut reply);
     }

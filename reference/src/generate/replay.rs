@@ -57,7 +57,7 @@ fn put_give_up(r: &mut Random, uptime: u64, line: &mut Vec<u8>) {
     put_frame(GIVE_UP, uptime, clock, line);
 }
 
-const FAULTS: [Fault; 17] = [
+const FAULTS: [Fault; 18] = [
     Fault::By(OwnClockZero),
     Fault::By(PacketLengthWrong),
     Fault::By(OriginateMismatch),
@@ -75,6 +75,7 @@ const FAULTS: [Fault; 17] = [
     Fault::By(DelayNegative),
     Fault::By(DelayNegative),
     Fault::By(FirstBelowSecond),
+    Fault::By(NoOrder),
 ];
 
 impl Gateway {

@@ -46,8 +46,8 @@ fn hold(r: &mut Random, elapsed: u64) -> u64 {
 
 /// A first difference that passes, given the delay.
 fn first_difference(r: &mut Random, delay: i64) -> i64 {
-    // With this one Q is -2^63.
-    let least = i64::MIN + delay;
+    // With this one Q is -2^63 + 1.
+    let least = i64::MIN + 1 + delay;
     match r.below(15) {
         0 => i64::MAX,
         1 => least,

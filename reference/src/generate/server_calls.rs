@@ -2,7 +2,7 @@
 
 use super::packets::{identifier, make_length_wrong, octets_of, put_authenticator};
 use super::plain_calls::{any_fields, buffer_length};
-use super::timestamps::timestamp;
+use super::timestamps::{around, timestamp};
 use crate::conformance::call::{Call, LONGEST};
 use crate::packet::Fields;
 use crate::random::Random;
@@ -30,8 +30,8 @@ pub fn settings(r: &mut Random) -> Settings {
 fn answered(r: &mut Random, t2: u64) -> u64 {
     match r.below(16) {
         0 => t2.wrapping_sub(1),
-        1 => t2.wrapping_add(1 << 63),
-        2 => t2.wrapping_add((1 << 63) - 1),
+        1 => t2 ^ (1 << 63),
+        2 => around(r, t2 ^ (1 << 63)),
         3 => 0,
         4 => timestamp(r),
         5 | 6 => t2,

@@ -2,7 +2,7 @@
 
 use super::Marks;
 use super::client::records;
-use super::plain::exchange;
+use super::timestamps::{exchange, is_negative};
 use crate::client::{Client, Phase, Token};
 use crate::count::conformance::arrival_outcomes;
 use crate::count::outcome::Outcome;
@@ -38,6 +38,7 @@ pub fn arrival(
     root_delays(m, fields.root_delay, outcome);
     root_dispersions(m, fields.root_dispersion, outcome);
     order_about_kiss(m, &fields, t4, outcome);
+    m.see("3-before-43", outcome.by(OwnClockZero) && difference(t4, client.t1).is_none());
     order_about_roots(m, &fields, client.t1, t4, outcome);
     m.see_each("accepted-exponent-", 6..=14, |x| accepted && client.exponent == x);
     m.see("half-1-given", accepted && answer.get(10) == Some(&1));
@@ -169,16 +170,21 @@ fn order_about_kiss(m: &mut Marks, fields: &Fields, t4: u64, outcome: Outcome) {
 fn order_about_roots(m: &mut Marks, fields: &Fields, t1: u64, t4: u64, outcome: Outcome) {
     let delay = !(0..65536).contains(&fields.root_delay);
     let dispersion = fields.root_dispersion >= 65536;
-    let early = difference(t4, t1) < 0;
-    let below = measure(t1, fields.receive, fields.transmit, t4) == Err(FirstBelowSecond);
+    let early = is_negative(difference(t4, t1));
+    let measured = measure(t1, fields.receive, fields.transmit, t4);
+    let below = measured == Err(FirstBelowSecond);
+    let no_order = measured == Err(NoOrder);
     m.see("13-before-33", outcome.by(StratumTooHigh) && delay);
     m.see("13-before-34", outcome.by(StratumTooHigh) && dispersion && !delay);
     m.see("14-before-33", outcome.by(ServerTimestampZero) && delay);
     m.see("14-before-34", outcome.by(ServerTimestampZero) && dispersion && !delay);
     m.see("14-before-15", outcome.by(ServerTimestampZero) && early);
+    m.see("14-before-43", outcome.by(ServerTimestampZero) && no_order);
     m.see("33-before-34", outcome.by(RootDelayOutOfRange) && dispersion);
     m.see("33-before-15", outcome.by(RootDelayOutOfRange) && early);
     m.see("33-before-19", outcome.by(RootDelayOutOfRange) && below);
+    m.see("33-before-43", outcome.by(RootDelayOutOfRange) && no_order);
     m.see("34-before-15", outcome.by(RootDispersionTooLarge) && early);
     m.see("34-before-19", outcome.by(RootDispersionTooLarge) && below);
+    m.see("34-before-43", outcome.by(RootDispersionTooLarge) && no_order);
 }

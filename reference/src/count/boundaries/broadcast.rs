@@ -3,6 +3,7 @@
 use super::Marks;
 use super::arrival::fields_of;
 use super::server::settings_by_name;
+use super::timestamps::{is_negative, is_positive};
 use crate::conformance::broadcast_call::BroadcastCall;
 use crate::count::outcome::Outcome;
 use crate::packet::{Fields, LENGTH};
@@ -116,7 +117,7 @@ fn other_fields(m: &mut Marks, fields: &Fields, outcome: Outcome) {
     m.see_each("accepted-poll-", [0, 255], |poll| accepted && fields.poll == poll);
 }
 
-/// T3 - T4 and its ends, and both sides of tests 40 and 3.
+/// T3 - T4 and its ends, and both sides of tests 40, 3 and 43.
 fn differences(m: &mut Marks, t3: u64, t4: u64, outcome: Outcome) {
     let accepted = outcome.passed();
     let ahead = difference(t3, t4);
@@ -124,16 +125,18 @@ fn differences(m: &mut Marks, t3: u64, t4: u64, outcome: Outcome) {
     m.see("transmit=1", accepted && t3 == 1);
     m.see("T4-zero", outcome.by(OwnClockZero) && t4 == 0);
     m.see("T4=1", accepted && t4 == 1);
-    m.see_each("difference=", [-1, 0, 1], |d| accepted && ahead == d);
-    m.see("difference=2^63-1", accepted && ahead == (1 << 63) - 1);
-    m.see("difference=-2^63", accepted && ahead == -(1 << 63));
-    m.see("difference-positive-over-wrap", accepted && ahead > 0 && t3 < t4);
-    m.see("difference-negative-over-wrap", accepted && ahead < 0 && t3 > t4);
+    m.see_each("difference=", [-1, 0, 1], |d| accepted && ahead == Some(d));
+    m.see("difference=2^63-1", accepted && ahead == Some((1 << 63) - 1));
+    m.see("difference=-2^63+1", accepted && ahead == Some(1 - (1 << 63)));
+    m.see("43-T3-above-T4", outcome.by(NoOrder) && t3 > t4);
+    m.see("43-T3-below-T4", outcome.by(NoOrder) && t3 < t4);
+    m.see("difference-positive-over-wrap", accepted && is_positive(ahead) && t3 < t4);
+    m.see("difference-negative-over-wrap", accepted && is_negative(ahead) && t3 > t4);
 }
 
 /// The faults of a packet and of T4, in the order of the tests. A packet that is too short has no
 /// fields.
-fn faults_of_packet(packet: &[u8], fields: &Fields, t4: u64) -> [(Refusal, bool); 7] {
+fn faults_of_packet(packet: &[u8], fields: &Fields, t4: u64) -> [(Refusal, bool); 8] {
     let whole = packet.len() >= LENGTH;
     [
         (PacketLengthWrong, ![48, 68].contains(&packet.len())),
@@ -143,6 +146,7 @@ fn faults_of_packet(packet: &[u8], fields: &Fields, t4: u64) -> [(Refusal, bool)
         (BroadcastStratumWrong, whole && !(1..=15).contains(&fields.stratum)),
         (BroadcastTransmitZero, whole && fields.transmit == 0),
         (OwnClockZero, t4 == 0),
+        (NoOrder, whole && difference(fields.transmit, t4).is_none()),
     ]
 }
 

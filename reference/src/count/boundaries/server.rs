@@ -87,20 +87,26 @@ fn timestamps(m: &mut Marks, settings: &Settings, [t2, t3]: [u64; 2], outcome: O
     m.see("T2-zero", zero && t2 == 0 && t3 != 0);
     m.see("T3-zero", zero && t2 != 0 && t3 == 0);
     m.see("off-zero", sent_off && t2 == 0);
-    m.see("hold=0", sent && hold == 0);
-    m.see("hold=-1", back && hold == -1);
-    m.see("hold=2^63-1", sent && hold == (1 << 63) - 1);
-    m.see("hold=-2^63", back && hold == -(1 << 63));
+    m.see("hold=0", sent && hold == Some(0));
+    m.see("hold=-1", back && hold == Some(-1));
+    m.see("hold=2^63-1", sent && hold == Some((1 << 63) - 1));
+    m.see("hold=-2^63+1", back && hold == Some(1 - (1 << 63)));
+    m.see("43-T3-above-T2", outcome.by(NoOrder) && t3 > t2);
+    m.see("43-T3-below-T2", outcome.by(NoOrder) && t3 < t2);
     m.see("hold-over-wrap", sent && t3 < t2);
-    m.see("off-hold=-1", sent_off && hold == -1);
+    m.see("off-hold=-1", sent_off && hold == Some(-1));
+    m.see("off-no-order", sent_off && hold.is_none());
     m.see("reference-zero", sent && settings.reference == 0);
 }
 
-fn order(m: &mut Marks, settings: &Settings, [t2, _]: [u64; 2], request: &[u8], outcome: Outcome) {
+fn order(m: &mut Marks, settings: &Settings, [t2, t3]: [u64; 2], request: &[u8], outcome: Outcome) {
     let (version, _) = version_and_mode(request);
+    let no_order = difference(t3, t2).is_none();
     let refused_on = outcome.by(SettingsOutOfRange) && settings.synchronised;
     m.see("1-before-7", outcome.by(BufferTooShort) && request.len() == 47);
     m.see("21-before-22", outcome.by(RequestModeWrong) && version == 0);
     m.see("22-before-23", outcome.by(RequestVersionUnsupported) && settings.leap == 3);
     m.see("23-before-14", refused_on && t2 == 0);
+    m.see("23-before-43", refused_on && no_order);
+    m.see("14-before-43", outcome.by(ServerTimestampZero) && no_order);
 }

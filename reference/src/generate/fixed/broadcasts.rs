@@ -102,19 +102,35 @@ fn put_first_octets(lines: &mut Lines) {
     }
 }
 
+/// A transmit timestamp and T4: either is zero or not, and they are half a circle apart or not. Two
+/// zeros are not.
+fn times(transmit_zero: bool, t4_zero: bool, apart: bool) -> (u64, u64) {
+    const HALF: u64 = 1 << 63;
+    match (transmit_zero, t4_zero, apart) {
+        (true, true, _) => (0, 0),
+        (true, false, true) => (0, HALF),
+        (false, true, true) => (HALF, 0),
+        (false, false, true) => (T, T + HALF),
+        (true, false, false) => (0, T),
+        (false, true, false) => (T, 0),
+        (false, false, false) => (T, T),
+    }
+}
+
 /// Every choice of the client's faults, so that their order shows.
 fn put_faults_of_client(lines: &mut Lines) {
-    for faults in 0..128 {
+    for faults in 0..=255u8 {
         let has = |bit: u8| faults & (1 << bit) != 0;
+        let (transmit, t4) = times(has(5), has(6), has(7));
         let fields = Fields {
             mode: if has(1) { 4 } else { 5 },
             version: if has(2) { 5 } else { 4 },
             leap: if has(3) { 3 } else { 2 },
             stratum: if has(4) { 16 } else { 15 },
-            transmit: if has(5) { 0 } else { T },
+            transmit,
             ..GOOD
         };
-        arrival(lines, &fields, if has(6) { 0 } else { T }, if has(0) { 49 } else { 48 });
+        arrival(lines, &fields, t4, if has(0) { 49 } else { 48 });
     }
 }
 

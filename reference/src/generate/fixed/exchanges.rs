@@ -36,17 +36,41 @@ pub fn arrival(lines: &mut Lines, client: &Client, t4: u64, fields: &Fields, len
     clients::arrival(lines, client, t4, &packet(fields, length, 0xAB));
 }
 
+const SET: Settings = Settings {
+    synchronised: true,
+    leap: 0,
+    precision: -20,
+    identifier: *b"GPS\0",
+    reference: 3 * T,
+};
+
+/// A request of our client, cut or lengthened.
+fn request(length: u8) -> Vec<u8> {
+    let fields = Fields { version: 4, mode: 3, transmit: T, ..Fields::default() };
+    packet(&fields, length, 0xEF)
+}
+
 fn server_reply(lines: &mut Lines, n: u8, length: u8) {
-    let settings = Settings {
-        synchronised: true,
-        leap: 0,
-        precision: -20,
-        identifier: *b"GPS\0",
-        reference: 3 * T,
-    };
-    let request = Fields { version: 4, mode: 3, transmit: T, ..Fields::default() };
-    let request = packet(&request, length, 0xEF);
-    lines.call(Call::Reply { settings, t2: 5 * T, t3: 6 * T, n, request: &request });
+    let request = request(length);
+    lines.call(Call::Reply { settings: SET, t2: 5 * T, t3: 6 * T, n, request: &request });
+}
+
+/// Holds of a server, synchronised and not, with settings that pass and that do not.
+fn put_holds(lines: &mut Lines) {
+    let half = 1 << 63;
+    let times: Vec<(u64, u64)> = pairs(
+        &[0, 1, 5 * T, half, half + 5 * T, u64::MAX],
+        &[u64::MAX, 0, 1, half - 1, half, half + 1],
+    )
+    .collect();
+    let request = request(48);
+    let set = pairs(&[true, false], &[0, 3]);
+    let settings: Vec<Settings> =
+        set.map(|(synchronised, leap)| Settings { synchronised, leap, ..SET }).collect();
+    for ((t2, hold), settings) in pairs(&times, &settings) {
+        let t3 = t2.wrapping_add(hold);
+        lines.call(Call::Reply { settings, t2, t3, n: 48, request: &request });
+    }
 }
 
 /// Every buffer length and every packet length.
@@ -142,8 +166,17 @@ fn put_roots_with_other_faults(lines: &mut Lines) {
         put(T, Fields { transmit: 0, ..fields });
         put(T - 1, fields);
         put(T + 1, Fields { receive: half_circle, transmit: half_circle, ..fields });
+        put(T + 2, Fields { receive: half_circle + 1, transmit: half_circle + 1, ..fields });
     }
     put(T, Fields { root_dispersion: u32::MAX, ..bad_delay });
+}
+
+/// T4 half a circle from T1, with a zero that is refused before that.
+fn put_no_order_with_zeros(lines: &mut Lines) {
+    let half = 1 << 63;
+    arrival(lines, &waiting(half), 0, &reply(T, T), 48);
+    arrival(lines, &waiting(T), T + half, &reply(0, T), 48);
+    arrival(lines, &waiting(T), T + half, &reply(T, 0), 48);
 }
 
 pub fn put_lines(lines: &mut Lines) {
@@ -156,4 +189,6 @@ pub fn put_lines(lines: &mut Lines) {
     lines.calls([Call::Fresh, Call::Constants]);
     put_roots(lines);
     put_roots_with_other_faults(lines);
+    put_no_order_with_zeros(lines);
+    put_holds(lines);
 }

@@ -12,7 +12,7 @@ const BACK: u64 = T.wrapping_sub(FAR);
 const HALF: u64 = T + (1 << 63);
 
 /// T1 to T4.
-const EXCHANGES: [[u64; 4]; 22] = [
+const EXCHANGES: [[u64; 4]; 23] = [
     [T, T, T, T],
     [T, T, T, T + 1],
     [T, T, T, T + (1 << 36)],
@@ -29,8 +29,9 @@ const EXCHANGES: [[u64; 4]; 22] = [
     [T, HALF, HALF + 5, T + 5],
     [T, HALF, HALF + 5, T + 6],
     [T, HALF, HALF - 1, T],
-    // The delay is negative, and P is not below Q.
+    // The delay is negative; Q has no order, or P is not below Q.
     [T, HALF - 1, HALF + 5, T + 5],
+    [T, HALF - 1, HALF + 6, T + 5],
     [T, T + 5, T + 5, T + 5],
     [0xFFFF_FFFA_0000_0000, 0x0000_0004_8000_0000, 0x0000_0005_8000_0000, 0xFFFF_FFFB_C000_0000],
     [0, 0, 0, 0],
@@ -40,14 +41,26 @@ const EXCHANGES: [[u64; 4]; 22] = [
 
 /// P and Q on one side of the half circle and on both, with each delay at its ends.
 fn about_half() -> impl Iterator<Item = [u64; 4]> {
-    const T2: [u64; 7] =
-        [HALF - 2, HALF - 1, HALF, HALF + 1, HALF + 2, HALF + LIMIT - 1, HALF + LIMIT];
+    const FAR: u64 = HALF + LIMIT;
+    const T2: [u64; 8] = [HALF - 2, HALF - 1, HALF, HALF + 1, HALF + 2, FAR - 1, FAR, FAR + 1];
     const T4: [u64; 7] = [T - 1, T, T + 1, T + 2, T + LIMIT - 1, T + LIMIT, T + LIMIT + 1];
     pairs(&T2, &T4).map(|(t2, t4)| [T, t2, t2, t4])
 }
 
+/// Each of the four differences about half a circle, alone and with others, and with the faults of
+/// the other tests.
+fn about_no_order() -> impl Iterator<Item = [u64; 4]> {
+    const HALF_CIRCLE: u64 = 1 << 63;
+    const T2: [u64; 4] = [T, HALF - 1, HALF, HALF + 1];
+    const T4: [u64; 7] = [T - 1, T, T + 1, T + LIMIT + 1, HALF - 1, HALF, HALF + 1];
+    let holds = [u64::MAX, 0, 1, HALF_CIRCLE - 1, HALF_CIRCLE, HALF_CIRCLE + 1];
+    pairs(&T2, &T4).flat_map(move |(t2, t4)| {
+        holds.into_iter().map(move |hold| [T, t2, t2.wrapping_add(hold), t4])
+    })
+}
+
 fn put_exchanges(lines: &mut Lines) {
-    for [t1, t2, t3, t4] in EXCHANGES.into_iter().chain(about_half()) {
+    for [t1, t2, t3, t4] in EXCHANGES.into_iter().chain(about_half()).chain(about_no_order()) {
         lines.call(Call::Measure { t1, t2, t3, t4 });
         if t1 != 0 {
             arrival(lines, &waiting(t1), t4, &reply(t2, t3), 48);
