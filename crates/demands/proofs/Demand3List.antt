@@ -29,7 +29,7 @@ use Rattle.demands.specs.Behaviour.{client, reply, form, ours}
 use Rattle.demands.specs.Associations as associations
 use Rattle.demands.specs.Associations.{ListCall, ask, arrival, giveUp, InList, AllLegal, useAfter, clientCall, placed, at-record}
 use Rattle.demands.specs.Demand3 as one-record
-use Rattle.demands.specs.Demand3.{T1, T2, T3, T4}
+use Rattle.demands.specs.Demand3.{T1, T2, T3, T4, readings}
 use Rattle.demands.specs.Demand3List.{Associations, Numbered, AllPermitted, Run, given, does, left, after, IsRefused, AllRefused, theAsk, theReply, atEnd, theArrival, Premises, Conclusions, Demand3List}
 use Rattle.demands.proofs.Form.{Passes, either, facts, unmapped}
 use Rattle.demands.proofs.Legal.{waiting-legal}
@@ -175,24 +175,19 @@ module _ (r : Run) (p : Premises ours r) where
   by-itself : one-record.Conclusions ours run
   by-itself = demand3 run (record {
     orderly = p .orderly;
-    ask-accepted = not-refused;
-    fits = p .fits;
-    synchronised = p .synchronised;
-    set = p .set;
-    room = p .room;
-    permitted = tt;
+    calls = record { ask-accepted = not-refused; fits = p .fits; synchronised = p .synchronised; set = p .set; room = p .room; permitted = tt };
   })
 
   abbrev replied : List ℕ → Written ReplyAnswer
   replied octets = ours .does reply (record { settings = r .settings; request = take 48 octets; t2 = T2 (r .exchange); t3 = T3 (r .exchange); buffer = r .replyBuffer })
 
-  octets-are : theAsk ours r .octets ≡ one-record.theAsk ours run .octets
+  octets-are : theAsk ours r .octets ≡ one-record.theAsk ours (readings (r .exchange)) run .octets
   octets-are = ap (λ o. o .octets) ask-is
 
-  record-is : association (atEnd ours r .list) (r .at) ≡ one-record.theAsk ours run .next
+  record-is : association (atEnd ours r .list) (r .at) ≡ one-record.theAsk ours (readings (r .exchange)) run .next
   record-is = between .1 .same ∙ sym (ap (λ (o : calls.Outcome). o .next) (own .is))
 
-  arriving : theArrival ours r .result ≡ one-record.theArrival ours run .result
+  arriving : theArrival ours r .result ≡ one-record.theArrival ours (readings (r .exchange)) run .result
   arriving =
       ap (λ o. o .result) (in-place (given ours (atEnd ours r) (record { at = r .at; call = arrival (record { packet = take 48 (theReply ours r .octets); t4 = T4 (r .exchange) }) })) (between .1 .inside) (between .1 .legal))
       ∙ (λ j. calls.step (record-is j) (calls.arrival (record { packet = take 48 (replied (octets-are j) .octets); t4 = T4 (r .exchange); alternate = run .alternate })) .result)
@@ -201,7 +196,7 @@ module _ (r : Run) (p : Premises ours r) where
   concluded = record {
     refusals = between .0;
     unchanged = between .1 .same ∙ sym (sound .same);
-    answered = ap (λ octets. replied octets .answer) octets-are ∙ by-itself .answered;
+    answered = ap (λ octets. replied octets .answer) octets-are ∙ by-itself .calls .answered;
     offset = by-itself .offset;
     half = by-itself .half;
     half-0-or-1 = by-itself .half-0-or-1;

@@ -1,115 +1,170 @@
--- The exchange of demand 3: what the differences of the four readings are, that every test of them passes, and the bound.
-use Prim.Native.Nat.{_+_, _-_, _^_, _≤_, _<_}
+-- The exchange between clocks that tick: what the differences of the four readings are, that every test of them passes but 18, and the bound.
+use Prim.Native.Nat.{ℕ, _+_, _-_, _^_, _≤_, _<_, max}
 use mathlib.Core.Path.{_≡_}
+use mathlib.Core.Logic.{inl, inr}
 use native.Mathlib.Omega.{arith}
-use lib.IntN.{ℤ, pos, natAbs, _+ℤ_, _-ℤ_}
+use lib.IntN.{ℤ, pos, negℤ, _+ℤ_, _-ℤ_}
 use lib.Signed.{_≤ℤ_}
 use Rattle.arithmetic.proofs.Integers.{up, dn, integers, sum, minus, neg, size, size-is, size-le, eq-integers}
 use Rattle.arithmetic.proofs.Modulo.{modulo-below}
 use Rattle.arithmetic.proofs.TwosComplement.{exact}
+use Rattle.refusals.specs.Numbers.{delay-negative, first-below-second, no-order}
+use Rattle.ordered_tests.specs.Tests.{Given}
 use Rattle.timestamp.specs.Timestamp.{_since_}
-use Rattle.offset.specs.Offset.{floorHalf, halfOf}
 use Rattle.offset.specs.Halving.{twice}
 use Rattle.offset.proofs.Halving.{halving}
+use Rattle.demands.specs.Form.{_unless_then_, does, Gives}
 use Rattle.demands.specs.Common.{InOrder}
-use Rattle.demands.specs.Measure.{P, Q, d}
-use Rattle.demands.specs.Demand3.{clocksApart, Exchange, reading, T1, T2, T3, T4, readings, trueDifference, Orderly}
+use Rattle.demands.specs.Measure.{Four, P, Q, d, offset, half, fourRules}
+use Rattle.demands.specs.Demand3.{clocksApart, Exchange, trueDifference}
+use Rattle.demands.specs.Ticks.{cutDown, reading, readings, Orderly, excess, InBound}
+use Rattle.demands.proofs.Cut.{some-unit, lost, cut-order}
 
-pub reading-below : (a t : ℤ) → reading a t .0 < 2 ^ 64
+pub reading-below : (tick : ℕ) (constant t : ℤ) → reading tick constant t .0 < 2 ^ 64
 unfolding reading
-reading-below a t = modulo-below (t +ℤ a) (omega arith)
+reading-below tick constant t = modulo-below (cutDown tick (t +ℤ constant)) (omega arith)
 
--- the difference of two readings is that of the clocks' times, where that is in range; said in natural numbers
-abbrev Gap : ℤ → ℤ → ℤ → ℤ → Type 0
-Gap t a u b = up (reading a t since reading b u) + (dn t + dn a + up u + up b) ≡ (up t + up a + dn u + dn b) + dn (reading a t since reading b u)
+-- a reading before its reduction
+abbrev shown : ℕ → ℤ → ℤ → ℤ
+shown tick constant t = cutDown tick (t +ℤ constant)
 
-gap : (t a u b : ℤ) → dn t + dn a + up u + up b ≤ up t + up a + dn u + dn b + 2 ^ 63 → up t + up a + dn u + dn b < dn t + dn a + up u + up b + 2 ^ 63 → Gap t a u b
+-- the difference of two readings is that of what the clocks show, where that is in range; said in natural numbers
+abbrev Gap : ℤ → ℤ → ℤ → Type 0
+Gap r x y = up r + (dn x + up y) ≡ (up x + dn y) + dn r
+
+gap : (m n : ℕ) (a b t u : ℤ)
+    → dn (shown m a t) + up (shown n b u) ≤ up (shown m a t) + dn (shown n b u) + 2 ^ 63
+    → up (shown m a t) + dn (shown n b u) < dn (shown m a t) + up (shown n b u) + 2 ^ 63
+    → Gap (reading m a t since reading n b u) (shown m a t) (shown n b u)
 unfolding reading _since_
-gap t a u b low high =
-    omega (arith, eq-integers (exact 64 (t +ℤ a) (u +ℤ b) (omega arith) (record { low = omega (arith, integers, times, neg (pos (2 ^ 63))); high = omega (arith, integers, times) })), times)
-  where
-    times : up ((t +ℤ a) -ℤ (u +ℤ b)) + (dn t + dn a + up u + up b) ≡ (up t + up a + dn u + dn b) + dn ((t +ℤ a) -ℤ (u +ℤ b))
-    times = omega (arith, sum t a, sum u b, minus (t +ℤ a) (u +ℤ b))
+gap m n a b t u low high =
+    let x = shown m a t in
+    let y = shown n b u in
+    let s = minus x y in
+    omega (arith, eq-integers (exact 64 x y (omega arith) (record { low = omega (arith, integers, neg (pos (2 ^ 63))); high = omega (arith, integers) })))
 
-module _ (e : Exchange) (o : Orderly e) where
+-- what a clock shows is its time, less at most its tick less one unit
+lag : (tick : ℕ) → 0 < tick → (constant t : ℤ) → let x = shown tick constant t in
+    (up x + (dn t + dn constant) ≤ up t + up constant + dn x) × (up t + up constant + dn x ≤ up x + (dn t + dn constant) + (tick - 1))
+lag tick some constant t = omega (arith, lost tick some (t +ℤ constant), sum t constant)
+
+in-order : (z : ℤ) → dn z < up z + 2 ^ 63 → up z < dn z + 2 ^ 63 → InOrder z
+in-order z low high h = omega (arith, size-is z)
+
+module _ (m n : ℕ) (e : Exchange) (o : Orderly m n e) where
   open Exchange e using (sent, received, answered, arrived, client, server)
 
-  record Gaps : Type 0 where
-    short : up arrived + dn sent ≤ up sent + dn arrived + 2 ^ 36
-    above : up server + dn client < dn server + up client + clocksApart
-    below : dn server + up client < up server + dn client + clocksApart
-    total : Gap arrived client sent client
-    hold : Gap answered server received server
-    first : Gap received server sent client
-    second : Gap answered server arrived client
+  abbrev t : Four
+  t = readings m n e
 
-  gaps : Gaps
-  gaps =
-      let m = minus server client in
-      let n = o .near in
-      let out = o .outward in
-      let held = o .hold in
-      let back = o .back in
-      let limit = o .short in
-      let a : up server + dn client < dn server + up client + clocksApart = omega (arith, size (server -ℤ client)) in
-      let b : dn server + up client < up server + dn client + clocksApart = omega (arith, size (server -ℤ client)) in
-      let s : up arrived + dn sent ≤ up sent + dn arrived + 2 ^ 36 = omega (arith, integers, minus arrived sent) in
-      record {
-        short = s;
-        above = a;
-        below = b;
-        total = gap arrived client sent client (omega (arith, integers)) (omega (arith, integers));
-        hold = gap answered server received server (omega (arith, integers)) (omega (arith, integers));
-        first = gap received server sent client (omega (arith, integers)) (omega (arith, integers));
-        second = gap answered server arrived client (omega (arith, integers)) (omega (arith, integers));
-      }
+  abbrev trip : ℤ
+  trip = t .t4 since t .t1
 
-  -- every rule of the four readings holds
+  abbrev held : ℤ
+  held = t .t3 since t .t2
+
+  record Known : Type 0 where
+    outward : up sent + dn received ≤ up received + dn sent
+    hold : up received + dn answered ≤ up answered + dn received
+    back : up answered + dn arrived ≤ up arrived + dn answered
+    short : up arrived + dn sent + (m - 1) ≤ up sent + dn arrived + 2 ^ 36
+    above : up server + dn client + (m - 1) + (n - 1) < dn server + up client + clocksApart
+    below : dn server + up client + (m - 1) + (n - 1) < up server + dn client + clocksApart
+
+  known : Known
+  known =
+      let s = size (server -ℤ client) in
+      let near = o .near in
+      omega (arith, integers, o .outward, o .hold, o .back, o .short, minus server client, minus arrived sent, sum (arrived -ℤ sent) (pos (m - 1)))
+
+  -- the tests of the trip and of the server's time; that P - Q is d; that Q is above the true difference by at most the client's tick less one unit, and P
+  -- below it by at most the server's
+  record Found : Type 0 where
+    arrived-after : dn trip ≤ up trip
+    within-limit : up trip ≤ dn trip + 2 ^ 36
+    answered-after : dn held ≤ up held
+    hold-small : up held < dn held + 2 ^ 63
+    first-small : (dn (P t) < up (P t) + 2 ^ 63) × (up (P t) < dn (P t) + 2 ^ 63)
+    second-small : (dn (Q t) < up (Q t) + 2 ^ 63) × (up (Q t) < dn (Q t) + 2 ^ 63)
+    same-side : up (P t) + dn (Q t) + dn (d t) ≡ dn (P t) + up (Q t) + up (d t)
+    second-above : up (Q t) + dn server + up client ≤ dn (Q t) + up server + dn client + (m - 1)
+    first-below : dn (P t) + up server + dn client ≤ up (P t) + dn server + up client + (n - 1)
+
+  found : Found
+  found =
+      let k = known in
+      let some-m = some-unit m (o .ticks .0) in
+      let some-n = some-unit n (o .ticks .1) in
+      let s = lag m some-m client sent in
+      let r = lag n some-n server received in
+      let a = lag n some-n server answered in
+      let v = lag m some-m client arrived in
+      let out-and-back = cut-order m some-m (sent +ℤ client) (arrived +ℤ client) (omega (arith, sum sent client, sum arrived client)) in
+      let in-and-out = cut-order n some-n (received +ℤ server) (answered +ℤ server) (omega (arith, sum received server, sum answered server)) in
+      let total = gap m m client client arrived sent (omega arith) (omega arith) in
+      let hold = gap n n server server answered received (omega arith) (omega arith) in
+      let first = gap n m server client received sent (omega arith) (omega arith) in
+      let second = gap n m server client answered arrived (omega arith) (omega arith) in
+      omega (arith, minus trip held)
+
+  -- the delay is below zero by at most both ticks, each less one unit
+  pub least : dn (d t) ≤ up (d t) + (m - 1) + (n - 1)
+  least = let f = found in omega arith
+
+  -- every rule of the four readings holds, if 18 does
   pub record Timely : Type 0 where
-    pub trip-in-order : InOrder (T4 e since T1 e)
-    pub arrived-after : pos 0 ≤ℤ (T4 e since T1 e)
-    pub within-limit : (T4 e since T1 e) ≤ℤ pos (2 ^ 36)
-    pub hold-in-order : InOrder (T3 e since T2 e)
-    pub answered-after : pos 0 ≤ℤ (T3 e since T2 e)
-    pub delay : pos 0 ≤ℤ d (readings e)
-    pub first-in-order : InOrder (P (readings e))
-    pub second-in-order : InOrder (Q (readings e))
-    pub same-side : Q (readings e) ≤ℤ P (readings e)
+    pub trip-in-order : InOrder trip
+    pub arrived-after : pos 0 ≤ℤ trip
+    pub within-limit : trip ≤ℤ pos (2 ^ 36)
+    pub hold-in-order : InOrder held
+    pub answered-after : pos 0 ≤ℤ held
+    pub first-in-order : InOrder (P t)
+    pub second-in-order : InOrder (Q t)
+    pub same-side : pos 0 ≤ℤ d t → Q t ≤ℤ P t
 
   pub timely : Timely
   timely =
-      let k = gaps in
-      let out = o .outward in
-      let held = o .hold in
-      let back = o .back in
-      let m = minus (T4 e since T1 e) (T3 e since T2 e) in
+      let f = found in
       record {
-        trip-in-order = λ h. omega (arith, integers, size-is (T4 e since T1 e));
+        trip-in-order = in-order trip (omega arith) (omega arith);
         arrived-after = omega (arith, integers);
         within-limit = omega (arith, integers);
-        hold-in-order = λ h. omega (arith, integers, size-is (T3 e since T2 e));
+        hold-in-order = in-order held (omega arith) (omega arith);
         answered-after = omega (arith, integers);
-        delay = omega (arith, integers);
-        first-in-order = λ h. omega (arith, integers, size-is (P (readings e)));
-        second-in-order = λ h. omega (arith, integers, size-is (Q (readings e)));
-        same-side = omega (arith, integers);
+        first-in-order = in-order (P t) (omega arith) (omega arith);
+        second-in-order = in-order (Q t) (omega arith) (omega arith);
+        same-side = λ h. omega (arith, integers);
       }
 
-  -- twice the offset plus the half, less twice the true difference, is at most the delay in size
-  abbrev total-sum : ℤ
-  total-sum = P (readings e) +ℤ Q (readings e)
+  pub but-18 : {O : Type 0} (o : O) (g : Given O) → Gives (delay-negative unless pos 0 ≤ℤ d t then does o) g → Gives (fourRules t (does o)) g
+  but-18 o g given = let k = timely in inr (k .trip-in-order, inr (k .arrived-after, inr (k .within-limit, inr (k .hold-in-order, inr (k .answered-after, rest given)))))
+    where
+      rest : Gives (delay-negative unless pos 0 ≤ℤ d t then does o) g
+          → Gives (delay-negative unless pos 0 ≤ℤ d t then no-order unless InOrder (P t) then no-order unless InOrder (Q t) then first-below-second unless Q t ≤ℤ P t then does o) g
+      rest (inl x) = inl x
+      rest (inr (h, is)) = let k = timely in inr (h, inr (k .first-in-order, inr (k .second-in-order, inr (k .same-side h, is))))
 
-  pub bound : pos (natAbs (twice (floorHalf total-sum) +ℤ pos (halfOf total-sum) -ℤ twice (trueDifference e))) ≤ℤ d (readings e)
-  bound =
-      let k = gaps in
-      let out = o .outward in
-      let held = o .hold in
-      let back = o .back in
+  abbrev miss : ℤ
+  miss = excess e (offset t) (half t)
+
+  miss-is : up miss + (dn (P t) + dn (Q t) + (up server + dn client) + (up server + dn client)) ≡ (up (P t) + up (Q t) + (dn server + up client) + (dn server + up client)) + dn miss
+  miss-is =
       let D = trueDifference e in
-      let e₁ = sum (P (readings e)) (Q (readings e)) in
-      let e₂ = sum D D in
-      let e₃ = minus total-sum (twice D) in
-      let e₄ = minus server client in
-      let e₅ = minus (T4 e since T1 e) (T3 e since T2 e) in
-      let e₆ = neg (d (readings e)) in
-      rw (halving total-sum .exact) (size-le (total-sum -ℤ twice D) (d (readings e)) (omega (arith, integers)) (omega (arith, integers)))
+      let exact-sum = eq-integers (halving (P t +ℤ Q t) .exact) in
+      omega (arith, minus server client, sum D D, sum (P t) (Q t), minus (twice (offset t) +ℤ pos (half t)) (twice D))
+
+  above : miss ≤ℤ (d t +ℤ twice (pos (m - 1)))
+  above = let f = found in omega (arith, integers, miss-is, sum (d t) (twice (pos (m - 1))))
+
+  below : negℤ miss ≤ℤ (d t +ℤ twice (pos (n - 1)))
+  below = let f = found in omega (arith, integers, miss-is, neg miss, sum (d t) (twice (pos (n - 1))))
+
+  pub in-bound : InBound m n e (offset t) (half t)
+  in-bound =
+      let a = above in
+      let b = below in
+      let most = d t +ℤ twice (pos (max m n - 1)) in
+      let s = sum (d t) (twice (pos (m - 1))) in
+      let u = sum (d t) (twice (pos (n - 1))) in
+      let v = sum (d t) (twice (pos (max m n - 1))) in
+      record { bound = size-le miss most (omega (arith, integers, neg most, neg miss)) (omega (arith, integers)); above = a; below = b }

@@ -10,6 +10,7 @@ use lib.IntN.{ℤ, pos, negℤ, natAbs, _+ℤ_, _-ℤ_}
 use lib.Signed.{leZ, leZ-yes, _≤ℤ_, _<ℤ_}
 use lib.ListN.{take, drop}
 use Rattle.arithmetic.proofs.Integers.{integers, sum, minus, neg, size, size-is}
+use Rattle.arithmetic.proofs.Modulo.{modulo-below}
 use Rattle.arithmetic.proofs.TwosComplement.{exact}
 use Rattle.arithmetic.specs.Modulo.{_modulo_}
 use Rattle.timestamp.specs.Timestamp.{isZero, _since_}
@@ -29,9 +30,12 @@ use Rattle.demands.specs.OneWay.{broadcastClocksApart, OneWay, T3, T4, t
 use Rattle.demands.proofs.Form.{done-so}
 use Rattle.demands.proofs.Broadcast.{broadcast-meets, broadcast-arrival-meets}
 use Rattle.demands.proofs.Served.{typed, front, packet-fields}
-use Rattle.demands.proofs.Exchange.{reading-below}
 use Rattle.demands.proofs.Facts.{available}
 use Rattle.demands.proofs.Witnesses.{all, each}
+
+reading-below : (constant t : ℤ) → reading constant t .0 < 2 ^ 64
+unfolding reading
+reading-below constant t = modulo-below (t +ℤ constant) (omega arith)
 
 -- the difference of the two readings
 difference-is : (e : OneWay) → Orderly e → (T3 e since T4 e) ≡ trueDifference e -ℤ travelled e

@@ -1,6 +1,6 @@
 -- An ask, our server's reply to the 48 octets that it wrote, and what the record that waits for it finds in that reply.
 use mathlib.Core.Path.{_≡_, refl, sym, ap, subst, _∙_}
-use mathlib.Core.Logic.{_≢_, inl}
+use mathlib.Core.Logic.{_≢_, inl, inr}
 use mathlib.Core.Bool.{Bool, true}
 use mathlib.Core.List.{List, _++_}
 use Prim.Native.Nat.{ℕ, _%_, _^_, _≤_, _<_}
@@ -33,14 +33,15 @@ use Rattle.server_packet.specs.Packet.{packetWith}
 use Rattle.server.specs.Server.{replyMessage, replyFields}
 use Rattle.client.specs.Calls as calls
 use Rattle.client.specs.Calls.{ask, Outcome}
-use Rattle.demands.specs.Form.{refusal, Rules}
+use Rattle.ordered_tests.specs.Tests.{Given}
+use Rattle.demands.specs.Form.{refusal, Rules, Gives}
 use Rattle.demands.specs.Common.{notAvailable, noToken, IsPacket, Written, InOrder}
 use Rattle.demands.specs.Legal.{Legal}
 use Rattle.demands.specs.Ask.{requestSent}
 use Rattle.demands.specs.Arrival.{matchRules}
 use Rattle.demands.specs.Reply.{Request, LegallySet, written}
 use Rattle.demands.specs.Behaviour.{client, reply, form, ours}
-use Rattle.demands.proofs.Form.{Passes, facts, done-so}
+use Rattle.demands.proofs.Form.{facts, done-so}
 use Rattle.demands.proofs.Legal.{waiting-legal}
 use Rattle.demands.proofs.Client.{client-meets}
 use Rattle.demands.proofs.Reply.{reply-meets}
@@ -230,19 +231,19 @@ module _ {c : Client} {x : calls.Ask} {s : Settings} {t2 t3 : Timestamp} {buffer
       ∙ ap (λ f. octetsOf (replyFields s f t2 t3)) of-request
 
   -- it answers the request of the record that waits for it: the rules up to a kiss
-  pub matched : (said : Fields) (t4 : Timestamp) (alternate : Bool) (rest : Rules Outcome) (o : Outcome) → fieldsOf (octetsOf said) ≡ typed said → said .originate ≡ carried (x .token) → said .mode ≡ 4 → said .version ≡ x .version
-      → Passes rest o → Passes (matchRules (waitingFor c (x .version) (x .clock) (x .token) (x .uptime)) (record { packet = octetsOf said; t4 = t4; alternate = alternate }) rest) o
-  matched said t4 alternate rest o e originate mode version p = (
+  pub matched : (said : Fields) (t4 : Timestamp) (alternate : Bool) (rest : Rules Outcome) (g : Given Outcome) → fieldsOf (octetsOf said) ≡ typed said → said .originate ≡ carried (x .token) → said .mode ≡ 4 → said .version ≡ x .version
+      → Gives rest g → Gives (matchRules (waitingFor c (x .version) (x .clock) (x .token) (x .uptime)) (record { packet = octetsOf said; t4 = t4; alternate = alternate }) rest) g
+  matched said t4 alternate rest g e originate mode version given = inr (
     waiting-legal c (x .version) (x .clock) (x .token) (x .uptime) (r .asked .legal) (r .asked .version) (r .asked .clock) (r .asked .token),
-    (
+    inr (
       inl (length-octetsOf said),
-      (
+      inr (
         refl,
-        (
+        inr (
           ap (λ f. f .originate) e ∙ originate,
-          (
+          inr (
             ap (λ f. f .mode) e ∙ mode,
-            (ap (λ f. f .version) e ∙ version, p),
+            inr (ap (λ f. f .version) e ∙ version, given),
           ),
         ),
       ),

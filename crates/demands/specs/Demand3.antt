@@ -91,7 +91,7 @@ abbrev pub AllPermitted : Token → ℕ → List Call → Type 0
 AllPermitted token uptime [] = Unit {0}
 AllPermitted token uptime (x ∷ xs) = Permitted token uptime x × AllPermitted token uptime xs
 
--- ---- the whole run: the ask with what it is given, the server's settings and buffer, and the calls between the ask and the arrival of the reply
+-- ---- a run: the ask with what it is given, the server's settings and buffer, and the calls between the ask and the arrival of the reply
 
 pub record Run : Type 0 where
   pub exchange : Exchange
@@ -121,22 +121,22 @@ module _ (b : Behaviour) where
   AllRefused c [] = Unit {0}
   AllRefused c (x ∷ xs) = IsRefused c x × AllRefused (b .does client (c, x) .next) xs
 
-  module _ (r : Run) where
-    abbrev e : Exchange
-    e = r .exchange
-
+  -- a run in which the clocks read these four
+  module _ (t : Four) (r : Run) where
     -- the ask at T1, the server's answer to the 48 octets that it wrote, and the arrival of the 48 octets of that answer after the calls in between
     abbrev pub theAsk : Outcome
-    theAsk = b .does client (r .client, ask (record { buffer = r .buffer; version = r .version; clock = T1 e; token = r .token; uptime = r .uptime }))
+    theAsk = b .does client (r .client, ask (record { buffer = r .buffer; version = r .version; clock = t .t1; token = r .token; uptime = r .uptime }))
 
     abbrev pub theReply : Written ReplyAnswer
-    theReply = b .does reply (record { settings = r .settings; request = take 48 (theAsk .octets); t2 = T2 e; t3 = T3 e; buffer = r .replyBuffer })
+    theReply = b .does reply (record { settings = r .settings; request = take 48 (theAsk .octets); t2 = t .t2; t3 = t .t3; buffer = r .replyBuffer })
+
+    abbrev pub replyArriving : Client × Call
+    replyArriving = (after (theAsk .next) (r .calls), arrival (record { packet = take 48 (theReply .octets); t4 = t .t4; alternate = r .alternate }))
 
     abbrev pub theArrival : Outcome
-    theArrival = b .does client (after (theAsk .next) (r .calls), arrival (record { packet = take 48 (theReply .octets); t4 = T4 e; alternate = r .alternate }))
+    theArrival = b .does client replyArriving
 
-    pub record Premises : Type 0 where
-      pub orderly : Orderly e
+    pub record CallPremises : Type 0 where
       pub ask-accepted : form client .shown theAsk .kind ≢ refusal  -- the ask is given any record, buffer, version, token and uptime, so long as it isn't refused
       pub fits : r .token .0 < 2 ^ 64  -- the token is a value of its type
       pub synchronised : r .settings .synchronised ≡ true
@@ -144,14 +144,27 @@ module _ (b : Behaviour) where
       pub room : 48 ≤ length (r .replyBuffer)
       pub permitted : AllPermitted (r .token) (r .uptime) (r .calls)
 
-    pub record Conclusions : Type 0 where
+    pub record CallConclusions : Type 0 where
       pub refusals : AllRefused (theAsk .next) (r .calls)
       pub unchanged : after (theAsk .next) (r .calls) ≡ theAsk .next
       pub answered : theReply .answer ≡ ReplyAnswer.Written
+
+  -- ---- demand 3
+
+  module _ (r : Run) where
+    abbrev e : Exchange
+    e = r .exchange
+
+    pub record Premises : Type 0 where
+      pub orderly : Orderly e
+      pub calls : CallPremises (readings e) r
+
+    pub record Conclusions : Type 0 where
+      pub calls : CallConclusions (readings e) r
       pub offset : ℤ
       pub half : ℕ
       pub half-0-or-1 : half ≤ 1
-      pub reply : theArrival .result ≡ accepted offset half (d (readings e))
+      pub reply : theArrival (readings e) r .result ≡ accepted offset half (d (readings e))
       pub bound : pos (natAbs (twice offset +ℤ pos half -ℤ twice (trueDifference e))) ≤ℤ d (readings e)
 
   -- One statement over every exchange, record, buffer, version, token, uptime, setting and list of calls, with or without an alternate.

@@ -49,13 +49,13 @@ otherServer = nine 5000 5002 (pos 1000)
 module _ (e : Exchange) where
   -- the record that waits after our ask, the request, and our server's reply to it
   abbrev pub waiting : Client
-  waiting = theAsk ours (run e) .next
+  waiting = theAsk ours (readings e) (run e) .next
 
   abbrev pub request : Request
-  request = record { settings = settings; request = take 48 (theAsk ours (run e) .octets); t2 = T2 e; t3 = T3 e; buffer = buffer }
+  request = record { settings = settings; request = take 48 (theAsk ours (readings e) (run e) .octets); t2 = T2 e; t3 = T3 e; buffer = buffer }
 
   abbrev packet : List ℕ
-  packet = take 48 (theReply ours (run e) .octets)
+  packet = take 48 (theReply ours (readings e) (run e) .octets)
 
   abbrev pub replied : Client × Call
   replied = (waiting, arrival (record { packet = packet; t4 = T4 e; alternate = true }))
@@ -97,11 +97,11 @@ module _ (e : Exchange) where
   inBound (accepted o h δ) = near o h δ && (leZ δ delay && leb h 1)
   inBound (kiss code row) = false
 
-  module _ (o : Orderly e) (b : Behaviour) (asked : form client .shown (theAsk b (run e)) .kind ≢ refusal) (demand : Demand3 b) where
+  module _ (o : Orderly e) (b : Behaviour) (asked : form client .shown (theAsk b (readings e) (run e)) .kind ≢ refusal) (demand : Demand3 b) where
     pub concluded : Conclusions b (run e)
     concluded = demand (run e) (premises b e o asked)
 
-    pub in-bound : T (inBound (theArrival b (run e) .result))
+    pub in-bound : T (inBound (theArrival b (readings e) (run e) .result))
     in-bound =
         let c = concluded in
         let same = integers-le {a = delay} {b = delay} (omega arith) in

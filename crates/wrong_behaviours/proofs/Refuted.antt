@@ -14,7 +14,7 @@ use Rattle.arithmetic.specs.Modulo.{_modulo_}
 use Rattle.arithmetic.specs.TwosComplement.{signed, bits, difference}
 use Rattle.arithmetic.specs.Octets.{octets}
 use Rattle.arithmetic.proofs.Integers.{integers, size, minus}
-use Rattle.refusals.specs.Numbers.{line-malformed}
+use Rattle.refusals.specs.Numbers.{delay-negative, line-malformed}
 use Rattle.timestamp.specs.declared.Timestamp.{Timestamp}
 use Rattle.timestamp.specs.Timestamp.{timestamp, fromSeconds, _since_, noOrder}
 use Rattle.offset.specs.Offset.{floorHalf, halfOf, offsetTests, measured}
@@ -57,13 +57,16 @@ use Rattle.demands.specs.Associations.{ListInput}
 use Rattle.demands.specs.SeveralServers.{rate}
 use Rattle.demands.specs.Behaviour.{client, association, reply, broadcastArrival, form, ours}
 use Rattle.demands.specs.Behaviour as behaviour
-use Rattle.demands.specs.Demand3.{Exchange, reading, T2, T3, T4, Orderly, theAsk, theArrival}
+use Rattle.demands.specs.Demand3.{Exchange, reading, readings, T2, T3, T4, Orderly, theAsk, theArrival}
+use Rattle.demands.specs.Ticks as ticks
+use Rattle.demands.specs.Ticks.{cutDown}
 use Rattle.demands.specs.Witnesses.{replay, settings, buffer, run}
 use Rattle.demands.specs.Wire.{Asking}
 use Rattle.token.specs.Token.{token}
 use Rattle.ordered_tests.proofs.Reflection.{contradiction}
 use Rattle.demands.proofs.Form.{acceptance-shown, differs, unique}
 use Rattle.demands.proofs.Each.{each}
+use Rattle.demands.proofs.Demand3.{follows}
 use Rattle.demands.proofs.Witnesses.{orderly}
 use Rattle.wrong_behaviours.specs.Client.{refusing, alwaysWriting, anyVersion, sendingClock, takingNone, stayingWaiting, spending, alwaysStopping, neverStopping, kissFirst, anyOriginate, unsignedTimes, rootUntested, negativeDelayUntested, dispersionSigned, rootSwapped, rootAfter15, fixing, measuring, zeroOffset, hugeDelay, halfLost, largeHalf, towardZero, halvedApart}
 use Rattle.wrong_behaviours.specs.Others.{preferringFirst, forgettingUse, answeringZero, neverReplying, wrongOriginate, measuringHalfCircle, reversingHalfCircle, tellingHalfCircle, fourthYearDates, fourthYearTimestamps, roundedDown, takingEntries, payingAll, refusingLines, droppingDigits, startingAfresh}
@@ -168,9 +171,9 @@ module _ (f : Implementation clients.client) where
   tells i n = differs (each client .answers) i (λ o. eqb (number o) n)
 
   -- demand 3 of the behaviour with this client, where its ask is not refused
-  module _ (e : Exchange) (o : Orderly e) (asked : form client .shown (theAsk (withClient f) (run e)) .kind ≢ refusal) where
-    in-bound-at : T (not (inBound e (theArrival (withClient f) (run e) .result))) → Fails3 (withClient f)
-    in-bound-at other demand = contradiction (inBound e (theArrival (withClient f) (run e) .result)) (in-bound e o (withClient f) asked demand) other
+  module _ (e : Exchange) (o : Orderly e) (asked : form client .shown (theAsk (withClient f) (readings e) (run e)) .kind ≢ refusal) where
+    in-bound-at : T (not (inBound e (theArrival (withClient f) (readings e) (run e) .result))) → Fails3 (withClient f)
+    in-bound-at other demand = contradiction (inBound e (theArrival (withClient f) (readings e) (run e) .result)) (in-bound e o (withClient f) asked demand) other
 
 -- a broadcast packet of version 4, stratum 1 and transmit timestamp 7
 abbrev fromBroadcast : List ℕ
@@ -196,7 +199,7 @@ abbrev accepted-ask : acceptance ≢ refusal
 accepted-ask = acceptance-shown .0
 
 pub refuted : Refuted
-unfolding measured broadcastArrived fieldTests outside anyIllegal firstRunning arrivedFor listAfterArrival rowOf arrived arrivals.arrivalAnswer waitingTests checkTests offsetTests _since_ difference signed _modulo_ noOrder floorHalf halfOf fieldsOf octetsOf octets requests.request illegal askTests afterAsk afterAskBuffer server.replied server.repliedBuffer server.replyTests requestTests server-packet.outOfRange server-packet.packetFields reading tooSoon gaveUp giveUpTests bits
+unfolding measured broadcastArrived fieldTests outside anyIllegal firstRunning arrivedFor listAfterArrival rowOf arrived arrivals.arrivalAnswer waitingTests checkTests offsetTests _since_ difference signed _modulo_ noOrder floorHalf halfOf fieldsOf octetsOf octets requests.request illegal askTests afterAsk afterAskBuffer server.replied server.repliedBuffer server.replyTests requestTests server-packet.outOfRange server-packet.packetFields reading ticks.reading cutDown tooSoon gaveUp giveUpTests bits
 refuted =
     let at-back = orderly slowBack tt in
     let at-out = orderly slowOut tt in
@@ -204,7 +207,7 @@ refuted =
     record {
       refuses-everything = λ number. back (refusing number) tt;
       refuses-by-0 = λ demand. demand .listed (fresh, giveUp (record { uptime = 0 })) refl;
-      never-asks = λ number r p. absurd (p .ask-accepted refl);
+      never-asks = λ number r p. absurd (p .calls .ask-accepted refl);
       any-version = differs (each client .answers) (fresh, ask (record { buffer = buffer; version = 5; clock = T4 slowBack; token = token 7; uptime = 0 })) (λ o. eqb (number o) 0) tt tt;
       sends-the-clock = (
         differs (each client .answers) (fresh, ask (record { buffer = buffer; version = 4; clock = timestamp 8; token = token 7; uptime = 0 })) (λ o. eqb (getD (o .octets) 47 0) 8) tt tt,
@@ -212,6 +215,7 @@ refuted =
       );
       fresh-with-uptime = λ demand. let e = ap (λ (c : Client). c .uptime) (demand .fresh-record) in omega arith;
       takes-no-reply = λ number. (back (takingNone number) tt, in-bound-at (takingNone number) slowBack at-back accepted-ask tt);
+      refuses-by-18 = λ met. let by-18 = takingNone (λ c x. delay-negative) in in-bound-at by-18 slowBack at-back accepted-ask tt (follows (withClient by-18) met);
       stays-waiting = back stayingWaiting tt;
       offset-zero = (back (measuring zeroOffset) tt, in-bound-at (measuring zeroOffset) slowBack at-back accepted-ask tt);
       huge-delay = (back (measuring hugeDelay) tt, in-bound-at (measuring hugeDelay) slowBack at-back accepted-ask tt);
@@ -254,7 +258,7 @@ refuted =
       );
       writes-when-refused = (
         (λ demand. subst (λ (o : Outcome). T (not (eqb (getD (o .octets) 0 0) 0))) (demand .unchanged (waiting slowBack, ask (record { buffer = buffer; version = 4; clock = T4 slowBack; token = token 7; uptime = 9 })) refl) tt),
-        (λ demand. subst (λ (o : Outcome). T (not (eqb (getD (o .octets) 0 0) 0))) (concluded slowBack at-back (withClient alwaysWriting) accepted-ask demand .refusals .0 .is) tt),
+        (λ demand. subst (λ (o : Outcome). T (not (eqb (getD (o .octets) 0 0) 0))) (concluded slowBack at-back (withClient alwaysWriting) accepted-ask demand .calls .refusals .0 .is) tt),
       );
       -- record 0 is kissed and use moves to record 1; record 1 is kissed while record 0 is in use, and use stays at 0
       prefers-first = differs (each association .answers) (kissed-at 0 0) (λ o. eqb (o .inUse) 0) tt tt;
@@ -262,7 +266,7 @@ refuted =
       always-0 = differs (each broadcastArrival .answers) (record { packet = fromBroadcast; t4 = timestamp 5 }) (λ a. eqb (natAbs (getD (form broadcastArrival .shown a .values) 0 (pos 0))) 0) tt tt;
       never-replies = λ number. (
         differs (each reply .answers) (request slowBack) (λ w. not (is-written (w .answer))) tt tt,
-        (λ demand. subst (λ a. T (is-written a)) (sym (concluded slowBack at-back (withServer (neverReplying number)) accepted-ask demand .answered)) tt),
+        (λ demand. subst (λ a. T (is-written a)) (sym (concluded slowBack at-back (withServer (neverReplying number)) accepted-ask demand .calls .answered)) tt),
       );
       wrong-originate = (
         differs (each reply .answers) (request slowBack) (λ w. eqb (getD (w .octets) 31 0) 0) tt tt,

@@ -2,6 +2,7 @@
 -- a behaviour is ours but for its client, whose replay then answers as that client does, or but for its server.
 use Prim.Native.Nat.{ℕ}
 use lib.IntN.{ℤ}
+use Rattle.refusals.specs.Numbers.{delay-negative}
 use Rattle.timestamp.specs.declared.Timestamp.{Timestamp}
 use Rattle.client.specs.declared.Client.{Client}
 use Rattle.client.specs.Calls.{Arrival, Call, Result}
@@ -14,6 +15,7 @@ use Rattle.demands.specs.Line.{carrying}
 use Rattle.demands.specs.Behaviour.{Operation, client, association, reply, broadcast, broadcastArrival, measure, read, write, date, timestamp, precision, entry, tick, line, form, Behaviour, ours}
 use Rattle.demands.specs.Demand2.{Demand2}
 use Rattle.demands.specs.Demand3.{Demand3}
+use Rattle.demands.specs.Ticks.{Ticks}
 use Rattle.demands.specs.SingleServer.{NeverStops}
 use Rattle.demands.specs.Wire.{ClockUnseen}
 use Rattle.wrong_behaviours.specs.Client.{laterStart, refusing, alwaysWriting, anyVersion, sendingClock, takingNone, stayingWaiting, spending, alwaysStopping, neverStopping, kissFirst, anyOriginate, unsignedTimes, rootUntested, negativeDelayUntested, dispersionSigned, rootSwapped, rootAfter15, fixing, measuring, zeroOffset, hugeDelay, halfLost, largeHalf, towardZero, halvedApart}
@@ -91,6 +93,8 @@ pub record Refuted : Type 0 where
   pub sends-the-clock : Fails2 client sendingClock × (ClockUnseen (withClient sendingClock) → ⊥)
   pub fresh-with-uptime : Demand2 (withFresh laterStart) → ⊥
   pub takes-no-reply : (number : Client → Arrival → ℕ) → Client23 (takingNone number)
+  -- between clocks that tick a reply may be refused by 18, but not every reply
+  pub refuses-by-18 : Ticks (withClient (takingNone (λ c x. delay-negative))) → ⊥
   pub stays-waiting : Fails2 client stayingWaiting
   pub offset-zero : Client23 (measuring zeroOffset)
   pub huge-delay : Client23 (measuring hugeDelay)
