@@ -1,60 +1,22 @@
 -- Demand 3 follows, of any behaviour, from the statement for clocks that tick, at ticks of one unit: there d is not negative, so that 18 is not given.
 use mathlib.Core.Path.{_≡_, sym, subst}
-use mathlib.Core.Logic.{_≢_, _↔_, ⊎-elim}
+use mathlib.Core.Logic.{⊎-elim}
 use native.Mathlib.Omega.{arith}
-use lib.IntN.{ℤ, pos, natAbs, _+ℤ_, _-ℤ_}
+use lib.IntN.{pos, natAbs, _+ℤ_, _-ℤ_}
 use lib.Signed.{_≤ℤ_}
 use Rattle.arithmetic.proofs.Integers.{integers, sum}
 use Rattle.offset.specs.Halving.{twice}
 use Rattle.client.specs.Calls.{accepted}
-use Rattle.demands.specs.Common.{notAvailable}
-use Rattle.demands.specs.Measure.{Four, d}
+use Rattle.clocks.specs.Exchange.{Exchange, trueDifference}
+use Rattle.clocks.specs.Ticks.{readings}
+use Rattle.clocks.proofs.Exchange.{least}
+use Rattle.clocks.proofs.OneUnit.{readings-are, at-tick-1}
+use Rattle.demands.specs.Measure.{d}
 use Rattle.demands.specs.Behaviour.{Behaviour, ours}
-use Rattle.demands.specs.Demand3.{Exchange, reading, readings, trueDifference, Orderly, Run, theArrival, CallPremises, CallConclusions, Premises, Conclusions, Demand3}
+use Rattle.demands.specs.Demand3.{Run, theArrival, CallPremises, CallConclusions, Premises, Conclusions, Demand3}
 use Rattle.demands.specs.Ticks as ticks
 use Rattle.demands.specs.Ticks.{Ticks, Demand3Follows}
-use Rattle.demands.proofs.Cut.{cut-1}
-use Rattle.demands.proofs.Exchange.{least}
 use Rattle.demands.proofs.Ticks as ours-ticks
-
--- a clock with a tick of one unit reads its time
-reads : (constant t : ℤ) → ticks.reading 1 constant t ≡ reading constant t
-unfolding ticks.reading reading
-reads constant t = rw (cut-1 (t +ℤ constant))
-
-pub readings-are : (e : Exchange) → ticks.readings 1 1 e ≡ readings e
-readings-are e = λ i. record {
-  t1 = reads (e .client) (e .sent) i;
-  t2 = reads (e .server) (e .received) i;
-  t3 = reads (e .server) (e .answered) i;
-  t4 = reads (e .client) (e .arrived) i;
-}
-
--- no reading is zero
-abbrev NonZero : Four → Type 0
-NonZero t = (t .t1 ≢ notAvailable) × (t .t2 ≢ notAvailable) × (t .t3 ≢ notAvailable) × (t .t4 ≢ notAvailable)
-
-pub at-tick-1 : (e : Exchange) → Orderly e ↔ ticks.Orderly 1 1 e
-at-tick-1 e =
-    let s = sum (e .arrived -ℤ e .sent) (pos 0) in (
-      λ o. record {
-        ticks = ((0, omega arith, omega arith), (0, omega arith, omega arith));
-        outward = o .outward;
-        hold = o .hold;
-        back = o .back;
-        short = omega (arith, integers, o .short);
-        nonzero = subst NonZero (sym (readings-are e)) (o .nonzero);
-        near = omega (arith, o .near);
-      },
-      λ o. record {
-        outward = o .outward;
-        hold = o .hold;
-        back = o .back;
-        short = omega (arith, integers, o .short);
-        nonzero = subst NonZero (readings-are e) (o .nonzero);
-        near = omega (arith, o .near);
-      },
-    )
 
 module _ (b : Behaviour) (met : Ticks b) (r : Run) (p : Premises b r) where
   abbrev e : Exchange
@@ -68,10 +30,10 @@ module _ (b : Behaviour) (met : Ticks b) (r : Run) (p : Premises b r) where
     calls = subst (λ t. CallConclusions b t r) (readings-are e) (concluded .calls);
     offset = a .offset;
     half = a .half;
-    half-0-or-1 = a .half-0-or-1;
+    half-0-or-1 = omega (arith, a .half-0-or-1);
     reply = subst (λ t. theArrival b t r .result ≡ accepted (a .offset) (a .half) (d t)) (readings-are e) (a .reply);
     bound =
-        let delay = d (ticks.readings 1 1 e) in
+        let delay = d (readings 1 1 e) in
         subst (λ t. pos (natAbs (twice (a .offset) +ℤ pos (a .half) -ℤ twice (trueDifference e))) ≤ℤ d t) (readings-are e)
         (omega (arith, integers, a .in-bound .bound, sum delay (pos 0)));
   }

@@ -29,7 +29,7 @@ use Rattle.demands.specs.Behaviour.{client, reply, form, ours}
 use Rattle.demands.specs.Associations as associations
 use Rattle.demands.specs.Associations.{ListCall, ask, arrival, giveUp, InList, AllLegal, useAfter, clientCall, placed, at-record}
 use Rattle.demands.specs.Demand3 as one-record
-use Rattle.demands.specs.Demand3.{T1, T2, T3, T4, readings}
+use Rattle.clocks.specs.Exchange.{T1, T2, T3, T4, readings}
 use Rattle.demands.specs.Demand3List.{Associations, Numbered, AllPermitted, Run, given, does, left, after, IsRefused, AllRefused, theAsk, theReply, atEnd, theArrival, Premises, Conclusions, Demand3List}
 use Rattle.demands.proofs.Form.{Passes, either, facts, unmapped}
 use Rattle.demands.proofs.Legal.{waiting-legal}

@@ -25,13 +25,13 @@ use Rattle.broadcast.specs.Broadcast.{broadcastMessage}
 use Rattle.demands.specs.Common.{notAvailable, InOrder, Written}
 use Rattle.demands.specs.Broadcast.{Broadcast, broadcastFields}
 use Rattle.demands.specs.Behaviour.{broadcast, broadcastArrival, ours}
-use Rattle.demands.specs.Demand3.{longestTrip, reading}
+use Rattle.clocks.specs.Exchange.{longestTrip, reading}
 use Rattle.demands.specs.OneWay.{broadcastClocksApart, OneWay, T3, T4, trueDifference, travelled, Orderly, Run, theWrite, theArrival, Premises, Conclusions, BroadcastDifference, across, slowest, fastest, runOf, OneWayWitnesses}
 use Rattle.demands.proofs.Form.{done-so}
 use Rattle.demands.proofs.Broadcast.{broadcast-meets, broadcast-arrival-meets}
 use Rattle.demands.proofs.Served.{typed, front, packet-fields}
 use Rattle.demands.proofs.Facts.{available}
-use Rattle.demands.proofs.Witnesses.{all, each}
+use Rattle.clocks.proofs.WorkedExchanges.{all, each}
 
 reading-below : (constant t : ℤ) → reading constant t .0 < 2 ^ 64
 unfolding reading

@@ -20,12 +20,16 @@ use Rattle.server_packet.specs.Packet.{outOfRange, packetFields}
 use Rattle.server.specs.Server.{requestTests, replyTests, replied, repliedBuffer}
 use Rattle.demands.specs.Form.{refusal}
 use Rattle.demands.specs.Behaviour.{client, form, ours}
-use Rattle.demands.specs.Demand3.{Exchange, theAsk}
-use Rattle.demands.specs.Ticks.{cutDown, reading, readings, Premises}
-use Rattle.demands.specs.Witnesses.{replay, run}
+use Rattle.clocks.specs.Exchange.{Exchange}
+use Rattle.clocks.specs.Ticks.{cutDown, reading, readings}
+use Rattle.clocks.specs.WorkedExchanges.{replay}
+use Rattle.clocks.proofs.WorkedExchanges.{all, tests, ticking-orderly}
+use Rattle.demands.specs.Demand3.{theAsk}
+use Rattle.demands.specs.Ticks.{Premises}
+use Rattle.demands.specs.Witnesses.{run}
 use Rattle.demands.specs.TickWitnesses.{shortTrip, slowOut, noTrip, TickWitnesses}
 use Rattle.demands.proofs.Form.{acceptance-shown}
-use Rattle.demands.proofs.Witnesses.{all, tests, ticking-orderly, call-premises}
+use Rattle.demands.proofs.Witnesses.{call-premises}
 
 met : (i j : ℕ) (e : Exchange) → form client .shown (theAsk ours (readings (2 ^ i) (2 ^ j) e) (run e)) .kind ≢ refusal → T (all (tests i j e)) → Premises (2 ^ i) (2 ^ j) ours (run e)
 met i j e asked passed = record { orderly = ticking-orderly i j e passed; calls = call-premises ours (readings (2 ^ i) (2 ^ j) e) e asked }

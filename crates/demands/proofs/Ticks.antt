@@ -1,15 +1,19 @@
 -- Demand 3 for clocks that tick holds of ours: the server answers the request, and the client that still waits accepts the reply, or refuses it by 18.
 use mathlib.Core.Path.{_≡_, refl, sym, ap, subst, _∙_}
-use mathlib.Core.Logic.{_⊎_, inl, inr}
-use Prim.Native.Nat.{ℕ, _<_}
+use mathlib.Core.Logic.{_⊎_, ⊎-map, inl, inr}
+use Prim.Native.Nat.{ℕ, _^_, _<_}
 use native.Mathlib.Decide.{decLt}
 use native.Mathlib.Omega.{arith}
-use lib.IntN.{pos, _+ℤ_}
+use lib.IntN.{ℤ, pos, natAbs, _+ℤ_}
 use lib.Signed.{_≤ℤ_}
 use Rattle.arithmetic.proofs.Integers.{up, dn, integers}
 use Rattle.refusals.specs.Numbers.{delay-negative}
 use Rattle.ordered_tests.specs.Tests.{Given, refused, answered}
+use Rattle.timestamp.specs.Timestamp.{_since_}
 use Rattle.offset.proofs.Halving.{halving}
+use Rattle.clocks.specs.Exchange.{Exchange}
+use Rattle.clocks.specs.Ticks.{readings, Orderly}
+use Rattle.clocks.proofs.Exchange.{reading-below, timely, bounded}
 use Rattle.packet.specs.declared.Fields.{Fields}
 use Rattle.packet.specs.Packet.{fieldsOf, octetsOf}
 use Rattle.client.specs.declared.Client.{Client}
@@ -20,16 +24,36 @@ use Rattle.request.specs.Request.{requestFields}
 use Rattle.server_packet.specs.Packet.{synchronisedFields, packetFields}
 use Rattle.server.specs.Server.{replyMessage, replyFields}
 use Rattle.demands.specs.Form.{_unless_then_, does, Gives, outcome}
+use Rattle.demands.specs.Common.{InOrder}
 use Rattle.demands.specs.Arrival.{accepted, sanityRules, arrivalRules}
 use Rattle.demands.specs.Measure.{Four, fourRules, P, Q, d, offset, half}
 use Rattle.demands.specs.Behaviour.{client, form, ours}
-use Rattle.demands.specs.Demand3.{Exchange, Run, after, AllRefused, theAsk, replyArriving}
-use Rattle.demands.specs.Ticks.{readings, Premises, TooShort, Accepted, Conclusions, Ticks}
+use Rattle.demands.specs.Demand3.{Run, after, AllRefused, theAsk, replyArriving}
+use Rattle.demands.specs.Ticks.{Premises, TooShort, Accepted, Conclusions, Ticks}
 use Rattle.demands.proofs.Form.{does-it}
 use Rattle.demands.proofs.Client.{client-meets}
-use Rattle.demands.proofs.Exchange.{reading-below, timely, but-18, in-bound}
 use Rattle.demands.proofs.Between.{all-refused, unchanged}
 use Rattle.demands.proofs.Served.{asked-is, Served, typed, reply-fields, reply-written, reply-octets, matched}
+
+-- less than half a circle apart
+pub ordered : (z : ℤ) → natAbs z < 2 ^ 63 → InOrder z
+ordered z low h = omega arith
+
+module _ (m n : ℕ) (e : Exchange) (orderly : Orderly m n e) where
+  abbrev four : Four
+  four = readings m n e
+
+  pub all-in-order : InOrder (four .t4 since four .t1) × InOrder (four .t3 since four .t2) × InOrder (P four) × InOrder (Q four)
+  all-in-order =
+      let k = timely m n e orderly in
+      (ordered (four .t4 since four .t1) (k .trip-small), ordered (four .t3 since four .t2) (k .hold-small), ordered (P four) (k .first-small), ordered (Q four) (k .second-small))
+
+  -- every rule of the four readings holds but for 18
+  but-18 : {O : Type 0} (o : O) (g : Given O) → Gives (delay-negative unless pos 0 ≤ℤ d four then does o) g → Gives (fourRules four (does o)) g
+  but-18 o g given =
+      let k = timely m n e orderly in
+      let (trip, hold, first, second) = all-in-order in
+      inr (trip, inr (k .arrived-after, inr (k .within-limit, inr (hold, inr (k .answered-after, ⊎-map (λ x. x) (λ (h, is). (h, inr (first, inr (second, inr (k .same-side h, is))))) given)))))
 
 module _ (m n : ℕ) (r : Run) (p : Premises m n ours r) where
   abbrev e : Exchange
@@ -48,7 +72,7 @@ module _ (m n : ℕ) (r : Run) (p : Premises m n ours r) where
     room = p .calls .room;
     set = p .calls .set;
     available = λ z. (p .orderly .nonzero .1, p .orderly .nonzero .2);
-    in-order = λ z. timely m n e (p .orderly) .hold-in-order;
+    in-order = λ z. all-in-order m n e (p .orderly) .1;
     hold = λ z. timely m n e (p .orderly) .answered-after;
   }
 
@@ -118,7 +142,7 @@ module _ (m n : ℕ) (r : Run) (p : Premises m n ours r) where
     half = half t;
     half-0-or-1 = halving (P t +ℤ Q t) .small;
     reply = ap (λ (o : Outcome). o .result) (arrival-is (answered (accepted w y)) (inr (omega (arith, integers), refl))) ∙ ap (λ f. calls.accepted (offset (with f)) (half (with f)) (d (with f))) of-reply;
-    in-bound = in-bound m n e (p .orderly);
+    in-bound = bounded m n e (p .orderly);
   })
 
   pub conclusions : Conclusions m n ours r

@@ -25,7 +25,7 @@ use Rattle.demands.specs.Associations.{ListCall, ask, arrival, clientCal
 use Rattle.demands.specs.Behaviour as behaviour
 use Rattle.demands.specs.Behaviour.{Behaviour, reply, form}
 use Rattle.demands.specs.Demand3 as one-record
-use Rattle.demands.specs.Demand3.{Exchange, T1, T2, T3, T4, readings, trueDifference, Orderly}
+use Rattle.clocks.specs.Exchange.{Exchange, T1, T2, T3, T4, readings, trueDifference, Orderly}
 
 -- the list and the number in use, as a call finds them and leaves them
 pub record Associations : Type 0 where

@@ -2,10 +2,10 @@
 -- difference that is tested has an order.
 use Prim.Native.Nat.{ℕ}
 use Rattle.timestamp.specs.Timestamp.{_since_}
+use Rattle.clocks.specs.Exchange.{Exchange, Orderly, readings}
+use Rattle.clocks.specs.Ticks as ticks
 use Rattle.demands.specs.Common.{InOrder}
 use Rattle.demands.specs.Measure.{Four, P, Q}
-use Rattle.demands.specs.Demand3.{Exchange, Orderly, readings}
-use Rattle.demands.specs.Ticks as ticks
 use Rattle.demands.specs.OneWay as one-way
 use Rattle.demands.specs.OneWay.{OneWay}
 

@@ -1,38 +1,15 @@
--- The arithmetic of four timestamps: T1 sent, T2 received, T3 answered, T4 arrived.
-use Prim.Native.Nat.{ℕ, _^_}
+-- The arithmetic of four timestamps.
+use Prim.Native.Nat.{_^_}
 use mathlib.Core.List.{[], _∷_}
-use lib.IntN.{ℤ, pos, _+ℤ_, _-ℤ_}
+use lib.IntN.{pos}
 use lib.Signed.{_≤ℤ_}
 use Rattle.refusals.specs.Numbers.{arrived-before-sent, arrived-too-late, answered-before-received, delay-negative, first-below-second, no-order}
-use Rattle.timestamp.specs.declared.Timestamp.{Timestamp}
 use Rattle.timestamp.specs.Timestamp.{_since_}
 use Rattle.offset.specs.declared.OffsetAnswer.{OffsetAnswer}
-use Rattle.offset.specs.Offset.{floorHalf, halfOf, measured}
+use Rattle.offset.specs.Offset.{measured}
+pub use Rattle.clocks.specs.Four.{Four, P, Q, d, offset, half}
 use Rattle.demands.specs.Form.{Shown, refusedBy, telling, Rules, _unless_then_, does, Form, Implementation}
 use Rattle.demands.specs.Common.{InOrder}
-
-pub record Four : Type 0 where
-  pub t1 : Timestamp
-  pub t2 : Timestamp
-  pub t3 : Timestamp
-  pub t4 : Timestamp
-
--- the rules' first difference P, second difference Q and delay d
-abbrev pub P : Four → ℤ
-P x = x .t2 since x .t1
-
-abbrev pub Q : Four → ℤ
-Q x = x .t3 since x .t4
-
-abbrev pub d : Four → ℤ
-d x = (x .t4 since x .t1) -ℤ (x .t3 since x .t2)
-
--- the offset is the greatest whole number not above (P + Q) / 2, and the half is what is left
-abbrev pub offset : Four → ℤ
-offset x = floorHalf (P x +ℤ Q x)
-
-abbrev pub half : Four → ℕ
-half x = halfOf (P x +ℤ Q x)
 
 -- the rules of the four, and then the rest
 abbrev pub fourRules : {O : Type 0} → Four → Rules O → Rules O

@@ -16,7 +16,7 @@ use Rattle.broadcast.specs.declared.BroadcastAnswer.{BroadcastAnswer}
 use Rattle.demands.specs.Common.{notAvailable, Written}
 use Rattle.demands.specs.Reply.{LegallySet}
 use Rattle.demands.specs.Behaviour.{Behaviour, broadcast, broadcastArrival, ours}
-use Rattle.demands.specs.Demand3.{longestTrip, reading}
+use Rattle.clocks.specs.Exchange.{longestTrip, reading}
 use Rattle.demands.specs.Witnesses.{settings, buffer}
 
 -- how far the clocks may be apart, in units

@@ -7,9 +7,12 @@ use Rattle.offset.specs.Halving.{twice}
 use Rattle.client.specs.Calls.{Result, refused, accepted}
 use Rattle.demands.specs.Measure.{d}
 use Rattle.demands.specs.Behaviour.{ours}
-use Rattle.demands.specs.Demand3.{Exchange, trueDifference, theArrival}
-use Rattle.demands.specs.Ticks.{readings, excess, Premises}
-use Rattle.demands.specs.Witnesses.{replay, run}
+use Rattle.clocks.specs.Exchange.{Exchange, trueDifference}
+use Rattle.clocks.specs.Ticks.{readings, excess}
+use Rattle.clocks.specs.WorkedExchanges.{replay}
+use Rattle.demands.specs.Demand3.{theArrival}
+use Rattle.demands.specs.Ticks.{Premises}
+use Rattle.demands.specs.Witnesses.{run}
 
 module _ (clientTick serverTick : ℕ) (e : Exchange) where
   -- the premises are met, the clocks read these four, and the arrival of the reply tells this

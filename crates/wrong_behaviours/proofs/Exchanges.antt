@@ -22,7 +22,8 @@ use Rattle.demands.specs.Form.{refusal}
 use Rattle.demands.specs.Measure.{d}
 use Rattle.demands.specs.Reply.{Request}
 use Rattle.demands.specs.Behaviour.{Behaviour, client, form, ours}
-use Rattle.demands.specs.Demand3.{Exchange, T2, T3, T4, readings, trueDifference, Orderly, theAsk, theReply, theArrival, Conclusions, Demand3}
+use Rattle.clocks.specs.Exchange.{Exchange, T2, T3, T4, readings, trueDifference, Orderly}
+use Rattle.demands.specs.Demand3.{theAsk, theReply, theArrival, Conclusions, Demand3}
 use Rattle.demands.specs.Witnesses.{settings, buffer, run}
 use Rattle.demands.proofs.Witnesses.{premises}
 

@@ -57,17 +57,19 @@ use Rattle.demands.specs.Associations.{ListInput}
 use Rattle.demands.specs.SeveralServers.{rate}
 use Rattle.demands.specs.Behaviour.{client, association, reply, broadcastArrival, form, ours}
 use Rattle.demands.specs.Behaviour as behaviour
-use Rattle.demands.specs.Demand3.{Exchange, reading, readings, T2, T3, T4, Orderly, theAsk, theArrival}
-use Rattle.demands.specs.Ticks as ticks
-use Rattle.demands.specs.Ticks.{cutDown}
-use Rattle.demands.specs.Witnesses.{replay, settings, buffer, run}
+use Rattle.clocks.specs.Exchange.{Exchange, reading, readings, T2, T3, T4, Orderly}
+use Rattle.clocks.specs.Ticks as ticks
+use Rattle.clocks.specs.Ticks.{cutDown}
+use Rattle.clocks.specs.WorkedExchanges.{replay}
+use Rattle.clocks.proofs.WorkedExchanges.{worked-exchanges, orderly}
+use Rattle.demands.specs.Demand3.{theAsk, theArrival}
+use Rattle.demands.specs.Witnesses.{settings, buffer, run}
 use Rattle.demands.specs.Wire.{Asking}
 use Rattle.token.specs.Token.{token}
 use Rattle.ordered_tests.proofs.Reflection.{contradiction}
 use Rattle.demands.proofs.Form.{acceptance-shown, differs, unique}
 use Rattle.demands.proofs.Each.{each}
 use Rattle.demands.proofs.Demand3.{follows}
-use Rattle.demands.proofs.Witnesses.{orderly}
 use Rattle.wrong_behaviours.specs.Client.{refusing, alwaysWriting, anyVersion, sendingClock, takingNone, stayingWaiting, spending, alwaysStopping, neverStopping, kissFirst, anyOriginate, unsignedTimes, rootUntested, negativeDelayUntested, dispersionSigned, rootSwapped, rootAfter15, fixing, measuring, zeroOffset, hugeDelay, halfLost, largeHalf, towardZero, halvedApart}
 use Rattle.wrong_behaviours.specs.Others.{preferringFirst, forgettingUse, answeringZero, neverReplying, wrongOriginate, measuringHalfCircle, reversingHalfCircle, tellingHalfCircle, fourthYearDates, fourthYearTimestamps, roundedDown, takingEntries, payingAll, refusingLines, droppingDigits, startingAfresh}
 use Rattle.wrong_behaviours.specs.Refuted.{withClient, withServer, Fails1, Fails2, Fails3, Refuted}
@@ -234,7 +236,7 @@ refuted =
             (in-bound slowBack at-back (withClient (fixing guess)) accepted-ask demand)
             (in-bound otherServer (orderly otherServer tt) (withClient (fixing guess)) accepted-ask demand)),
       );
-      unsigned-times = (over-2036 unsignedTimes tt, in-bound-at unsignedTimes replay (orderly replay tt) accepted-ask tt);
+      unsigned-times = (over-2036 unsignedTimes tt, in-bound-at unsignedTimes replay (worked-exchanges .replay-orderly) accepted-ask tt);
       always-stops = (
         differs (each client .answers) (waiting slowBack, with-kiss slowBack false) (λ o. isStopped (o .next .phase)) tt tt,
         (λ law. law (waiting slowBack) (with-kiss slowBack false ∷ []) waiting-runs (refl, tt) refl),

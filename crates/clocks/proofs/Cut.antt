@@ -9,7 +9,7 @@ use lib.Pow.{pow-pos}
 use Rattle.arithmetic.specs.Modulo.{_modulo_}
 use Rattle.arithmetic.proofs.Integers.{up, dn, integers, minus}
 use Rattle.arithmetic.proofs.Modulo.{modulo-below, residue}
-use Rattle.demands.specs.Ticks.{IsTick, cutDown}
+use Rattle.clocks.specs.Ticks.{IsTick, cutDown}
 
 pub some-unit : (tick : ℕ) → IsTick tick → 0 < tick
 some-unit tick (k, _, is) = omega (arith, is, pow-pos k)

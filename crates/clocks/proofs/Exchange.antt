@@ -1,24 +1,19 @@
--- The exchange between clocks that tick: what the differences of the four readings are, that every test of them passes but 18, and the bound.
+-- The exchange between clocks that tick: what the differences of the four readings are, and the bound.
 use Prim.Native.Nat.{ℕ, _+_, _-_, _^_, _≤_, _<_, max}
 use mathlib.Core.Path.{_≡_}
-use mathlib.Core.Logic.{inl, inr}
 use native.Mathlib.Omega.{arith}
-use lib.IntN.{ℤ, pos, negℤ, _+ℤ_, _-ℤ_}
+use lib.IntN.{ℤ, pos, negℤ, natAbs, _+ℤ_, _-ℤ_}
 use lib.Signed.{_≤ℤ_}
 use Rattle.arithmetic.proofs.Integers.{up, dn, integers, sum, minus, neg, size, size-is, size-le, eq-integers}
 use Rattle.arithmetic.proofs.Modulo.{modulo-below}
 use Rattle.arithmetic.proofs.TwosComplement.{exact}
-use Rattle.refusals.specs.Numbers.{delay-negative, first-below-second, no-order}
-use Rattle.ordered_tests.specs.Tests.{Given}
 use Rattle.timestamp.specs.Timestamp.{_since_}
 use Rattle.offset.specs.Halving.{twice}
 use Rattle.offset.proofs.Halving.{halving}
-use Rattle.demands.specs.Form.{_unless_then_, does, Gives}
-use Rattle.demands.specs.Common.{InOrder}
-use Rattle.demands.specs.Measure.{Four, P, Q, d, offset, half, fourRules}
-use Rattle.demands.specs.Demand3.{clocksApart, Exchange, trueDifference}
-use Rattle.demands.specs.Ticks.{cutDown, reading, readings, Orderly, excess, InBound}
-use Rattle.demands.proofs.Cut.{some-unit, lost, cut-order}
+use Rattle.clocks.specs.Four.{Four, P, Q, d, offset, half}
+use Rattle.clocks.specs.Exchange.{clocksApart, Exchange, trueDifference}
+use Rattle.clocks.specs.Ticks.{cutDown, reading, readings, Orderly, excess, InBound, Bounded}
+use Rattle.clocks.proofs.Cut.{some-unit, lost, cut-order}
 
 pub reading-below : (tick : ℕ) (constant t : ℤ) → reading tick constant t .0 < 2 ^ 64
 unfolding reading
@@ -48,8 +43,8 @@ lag : (tick : ℕ) → 0 < tick → (constant t : ℤ) → let x = shown tick co
     (up x + (dn t + dn constant) ≤ up t + up constant + dn x) × (up t + up constant + dn x ≤ up x + (dn t + dn constant) + (tick - 1))
 lag tick some constant t = omega (arith, lost tick some (t +ℤ constant), sum t constant)
 
-in-order : (z : ℤ) → dn z < up z + 2 ^ 63 → up z < dn z + 2 ^ 63 → InOrder z
-in-order z low high h = omega (arith, size-is z)
+small : (z : ℤ) → dn z < up z + 2 ^ 63 → up z < dn z + 2 ^ 63 → natAbs z < 2 ^ 63
+small z low high = omega (arith, size-is z)
 
 module _ (m n : ℕ) (e : Exchange) (o : Orderly m n e) where
   open Exchange e using (sent, received, answered, arrived, client, server)
@@ -111,38 +106,30 @@ module _ (m n : ℕ) (e : Exchange) (o : Orderly m n e) where
   pub least : dn (d t) ≤ up (d t) + (m - 1) + (n - 1)
   least = let f = found in omega arith
 
-  -- every rule of the four readings holds, if 18 does
+  -- what the rules of the four readings ask, but for the delay
   pub record Timely : Type 0 where
-    pub trip-in-order : InOrder trip
+    pub trip-small : natAbs trip < 2 ^ 63
     pub arrived-after : pos 0 ≤ℤ trip
     pub within-limit : trip ≤ℤ pos (2 ^ 36)
-    pub hold-in-order : InOrder held
+    pub hold-small : natAbs held < 2 ^ 63
     pub answered-after : pos 0 ≤ℤ held
-    pub first-in-order : InOrder (P t)
-    pub second-in-order : InOrder (Q t)
+    pub first-small : natAbs (P t) < 2 ^ 63
+    pub second-small : natAbs (Q t) < 2 ^ 63
     pub same-side : pos 0 ≤ℤ d t → Q t ≤ℤ P t
 
   pub timely : Timely
   timely =
       let f = found in
       record {
-        trip-in-order = in-order trip (omega arith) (omega arith);
+        trip-small = small trip (omega arith) (omega arith);
         arrived-after = omega (arith, integers);
         within-limit = omega (arith, integers);
-        hold-in-order = in-order held (omega arith) (omega arith);
+        hold-small = small held (omega arith) (omega arith);
         answered-after = omega (arith, integers);
-        first-in-order = in-order (P t) (omega arith) (omega arith);
-        second-in-order = in-order (Q t) (omega arith) (omega arith);
+        first-small = small (P t) (omega arith) (omega arith);
+        second-small = small (Q t) (omega arith) (omega arith);
         same-side = λ h. omega (arith, integers);
       }
-
-  pub but-18 : {O : Type 0} (o : O) (g : Given O) → Gives (delay-negative unless pos 0 ≤ℤ d t then does o) g → Gives (fourRules t (does o)) g
-  but-18 o g given = let k = timely in inr (k .trip-in-order, inr (k .arrived-after, inr (k .within-limit, inr (k .hold-in-order, inr (k .answered-after, rest given)))))
-    where
-      rest : Gives (delay-negative unless pos 0 ≤ℤ d t then does o) g
-          → Gives (delay-negative unless pos 0 ≤ℤ d t then no-order unless InOrder (P t) then no-order unless InOrder (Q t) then first-below-second unless Q t ≤ℤ P t then does o) g
-      rest (inl x) = inl x
-      rest (inr (h, is)) = let k = timely in inr (h, inr (k .first-in-order, inr (k .second-in-order, inr (k .same-side h, is))))
 
   abbrev miss : ℤ
   miss = excess e (offset t) (half t)
@@ -153,18 +140,17 @@ module _ (m n : ℕ) (e : Exchange) (o : Orderly m n e) where
       let exact-sum = eq-integers (halving (P t +ℤ Q t) .exact) in
       omega (arith, minus server client, sum D D, sum (P t) (Q t), minus (twice (offset t) +ℤ pos (half t)) (twice D))
 
-  above : miss ≤ℤ (d t +ℤ twice (pos (m - 1)))
-  above = let f = found in omega (arith, integers, miss-is, sum (d t) (twice (pos (m - 1))))
+  above : (k : ℕ) → m - 1 ≤ k → miss ≤ℤ (d t +ℤ twice (pos k))
+  above k h = let f = found in omega (arith, integers, miss-is, sum (d t) (twice (pos k)))
 
-  below : negℤ miss ≤ℤ (d t +ℤ twice (pos (n - 1)))
-  below = let f = found in omega (arith, integers, miss-is, neg miss, sum (d t) (twice (pos (n - 1))))
+  below : (k : ℕ) → n - 1 ≤ k → negℤ miss ≤ℤ (d t +ℤ twice (pos k))
+  below k h = let f = found in omega (arith, integers, miss-is, neg miss, sum (d t) (twice (pos k)))
 
-  pub in-bound : InBound m n e (offset t) (half t)
-  in-bound =
-      let a = above in
-      let b = below in
-      let most = d t +ℤ twice (pos (max m n - 1)) in
-      let s = sum (d t) (twice (pos (m - 1))) in
-      let u = sum (d t) (twice (pos (n - 1))) in
-      let v = sum (d t) (twice (pos (max m n - 1))) in
-      record { bound = size-le miss most (omega (arith, integers, neg most, neg miss)) (omega (arith, integers)); above = a; below = b }
+  within : (k : ℕ) → m - 1 ≤ k → n - 1 ≤ k → pos (natAbs miss) ≤ℤ (d t +ℤ twice (pos k))
+  within k a b = let most = d t +ℤ twice (pos k) in size-le miss most (omega (arith, integers, below k b, neg miss, neg most)) (above k a)
+
+  in-bound : InBound m n e (offset t) (half t)
+  in-bound = record { bound = within _ (omega arith) (omega arith); above = above _ (omega arith); below = below _ (omega arith) }
+
+pub bounded : Bounded
+bounded = in-bound

@@ -1,0 +1,4 @@
+pub mod Cut
+pub mod Exchange
+pub mod OneUnit
+pub mod WorkedExchanges

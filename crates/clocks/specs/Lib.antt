@@ -1,0 +1,4 @@
+pub mod Four
+pub mod Exchange
+pub mod Ticks
+pub mod WorkedExchanges
