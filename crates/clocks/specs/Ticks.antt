@@ -1,5 +1,5 @@
 -- An exchange between two clocks that tick: a reading is cut down to a multiple of the clock's tick.
-use Prim.Native.Nat.{ℕ, _+_, _-_, _^_, _≤_, _<_, max}
+use Prim.Native.Nat.{ℕ, _+_, _-_, _%_, _^_, _≤_, _<_, max}
 use mathlib.Core.Path.{_≡_}
 use mathlib.Core.Logic.{_≢_}
 use lib.IntN.{ℤ, pos, negℤ, natAbs, _+ℤ_, _-ℤ_}
@@ -22,6 +22,10 @@ cutDown tick z = z -ℤ pos (z modulo tick)
 -- what a clock with this tick and this constant reads at true time t
 unfoldable pub reading : ℕ → ℤ → ℤ → Timestamp
 reading tick constant t = timestamp (cutDown tick (t +ℤ constant) modulo 2 ^ 64)
+
+-- cutting down after the reduction is the same
+abbrev pub EitherWay : Type 0
+EitherWay = (tick : ℕ) (z : ℤ) → IsTick tick → cutDown tick z modulo 2 ^ 64 ≡ (z modulo 2 ^ 64) - (z modulo 2 ^ 64) % tick
 
 -- twice the offset plus the half, less twice the true difference: twice the miss
 abbrev pub excess : Exchange → ℤ → ℕ → ℤ
