@@ -71,6 +71,10 @@ fn too_soon(client: &Client, uptime: u64) -> bool {
     client.asked && i128::from(uptime) < i128::from(client.uptime) + interval
 }
 
+pub fn request_fields(version: u8, token: Token) -> Fields {
+    Fields { version, mode: 3, transmit: token.0, ..Fields::default() }
+}
+
 /// Writes a request, and hands the waiting client back.
 pub fn ask(
     client: &Client,
@@ -88,7 +92,7 @@ pub fn ask(
     ClientStopped.when(client.phase == Phase::Stopped)?;
     AlreadyWaiting.when(client.phase == Phase::Waiting)?;
     AskedTooSoon.when(too_soon(client, uptime))?;
-    packet::write(&Fields { version, mode: 3, transmit: token.0, ..Fields::default() }, buffer)?;
+    packet::write(&request_fields(version, token), buffer)?;
     Ok(Client {
         phase: Phase::Waiting,
         t1: clock,

@@ -3,6 +3,7 @@
 mod broadcast_calls;
 mod calendar_calls;
 mod client_calls;
+pub mod clocks;
 pub mod conformance;
 pub mod faults;
 mod fixed;
@@ -16,6 +17,7 @@ pub mod replay;
 pub mod replies;
 mod server_calls;
 mod text;
+pub mod ticks;
 mod timestamps;
 
 use std::io::{self, Write};

@@ -35,16 +35,21 @@ fn conformance_lines_reach_everything() {
     }
 }
 
-/// The rows that never occurred where no line begins with these digits.
-fn missing_without(digits: &str) -> Vec<String> {
+/// The rows that never occurred where no line is like this.
+fn missing_without_lines(out: impl Fn(&str) -> bool) -> Vec<String> {
     let lines = String::from_utf8_lossy(&conformance_lines(1)).to_ascii_uppercase();
-    let left: Vec<&str> = lines.split('\n').filter(|line| !line.starts_with(digits)).collect();
+    let left: Vec<&str> = lines.split('\n').filter(|line| !out(line)).collect();
     let lines = left.join("\n");
     let mut answers = Vec::new();
     conformance::run(lines.as_bytes(), &mut answers).unwrap();
     let mut counter = count::conformance::counter();
     counter.count(lines.as_bytes(), &answers[..]).unwrap();
     counter.missing()
+}
+
+/// The rows that never occurred where no line begins with these digits.
+fn missing_without(digits: &str) -> Vec<String> {
+    missing_without_lines(|line| line.starts_with(digits))
 }
 
 #[test]
@@ -72,6 +77,17 @@ fn broadcasts_that_are_missing_are_found() {
 #[test]
 fn differences_that_are_missing_are_found() {
     assert_eq!(missing_without("01"), ["01 00", "01 no-order"]);
+}
+
+#[test]
+fn ticks_that_are_missing_are_found() {
+    // The readings of a clock with this tick end in 00 or 80, and not both in 00.
+    let ends = |line: &str, at| line.get(at..at + 2) == Some("80");
+    let rows = |of| ["accepted", "18"].map(|word| format!("02 {word}-{of}-tick=2^7"));
+    let client = |line: &str| line.starts_with("02") && (ends(line, 16) || ends(line, 64));
+    assert_eq!(missing_without_lines(client), rows("client"));
+    let server = |line: &str| line.starts_with("02") && (ends(line, 32) || ends(line, 48));
+    assert_eq!(missing_without_lines(server), rows("server"));
 }
 
 #[test]

@@ -8,6 +8,7 @@ mod ledger;
 mod lists;
 mod plain;
 mod server;
+mod ticks;
 mod timestamps;
 
 use super::outcome::Outcome;

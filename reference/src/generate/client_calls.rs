@@ -4,13 +4,16 @@
 use super::faults::{Fault, add_fault};
 use super::packets::{alter, make_length_wrong, octets_of, put_authenticator};
 use super::plain_calls::buffer_length;
-use super::records::record;
+use super::records::{legal_record, record};
 use super::replies::good_reply;
+use super::server_calls::legal_settings;
+use super::ticks::{Ticks, exchange};
 use super::timestamps::{nonzero_token, timestamp, uptime};
-use crate::client::{Client, Phase, Token};
+use crate::client::{Client, Phase, Token, request_fields};
 use crate::conformance::call::{AskArguments, Call, LONGEST};
 use crate::random::Random;
 use crate::refusal::Refusal::*;
+use crate::server::reply_fields;
 
 fn version(r: &mut Random) -> u8 {
     match r.below(10) {
@@ -88,8 +91,29 @@ const FAULTS: [Fault; 23] = [
     Fault::By(NoOrder),
 ];
 
+/// A record, T4 and a packet that comes to it, at times from clocks that tick.
+pub fn arrived(r: &mut Random) -> (Client, u64, Vec<u8>) {
+    if r.one_in(8) {
+        return reply_of_ticking_clocks(r);
+    }
+    let client = record(r, Phase::Waiting);
+    let (t4, packet) = reply_with_faults(r, &client);
+    (client, t4, packet)
+}
+
+/// The record of an ask, and our server's reply to it, unaltered.
+fn reply_of_ticking_clocks(r: &mut Random) -> (Client, u64, Vec<u8>) {
+    let ticks = Ticks::any(r);
+    let [t1, t2, t3, t4] = exchange(r, ticks).readings();
+    let token = nonzero_token(r, t1);
+    let client = Client { t1, token, ..legal_record(r, Phase::Waiting) };
+    let request = request_fields(client.version, client.token);
+    let fields = reply_fields(&legal_settings(r), t2, t3, &request);
+    (client, t4, octets_of(&fields))
+}
+
 /// An arrival's T4 and packet.
-pub fn arrived(r: &mut Random, client: &Client) -> (u64, Vec<u8>) {
+fn reply_with_faults(r: &mut Random, client: &Client) -> (u64, Vec<u8>) {
     let mut reply = good_reply(r, client);
     let mut length_wrong = false;
     for _ in 0..r.pick([0, 0, 1, 1, 1, 1, 1, 2, 2, 3]) {
@@ -109,8 +133,7 @@ pub fn arrived(r: &mut Random, client: &Client) -> (u64, Vec<u8>) {
 }
 
 pub fn arrival(r: &mut Random, line: &mut Vec<u8>) {
-    let client = record(r, Phase::Waiting);
-    let (t4, packet) = arrived(r, &client);
+    let (client, t4, packet) = arrived(r);
     let alternate = r.one_in(2);
     Call::Arrival { client, t4, alternate, packet: &packet }.put(line);
 }
@@ -132,4 +155,25 @@ pub fn give_up(r: &mut Random, line: &mut Vec<u8>) {
     let client = record(r, Phase::Waiting);
     let uptime = uptime_of_give_up(r, &client);
     Call::GiveUp { client, uptime }.put(line);
+}
+
+#[cfg(test)]
+mod tests {
+    use super::*;
+    use crate::arrival::{Told, arrival};
+
+    #[test]
+    fn replies_of_ticking_clocks_are_accepted_or_refused_by_18() {
+        let mut r = Random::new(1);
+        let (mut accepted, mut refused) = (0, 0);
+        for _ in 0..10_000 {
+            let (client, t4, packet) = reply_of_ticking_clocks(&mut r);
+            match arrival(&client, &packet, t4, false).map(|arrived| arrived.told) {
+                Ok(Told::Accepted(_)) => accepted += 1,
+                Err(DelayNegative) => refused += 1,
+                other => panic!("{other:?}"),
+            }
+        }
+        assert!(accepted > 5000 && refused > 500, "{accepted} {refused}");
+    }
 }

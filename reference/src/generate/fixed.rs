@@ -8,6 +8,7 @@ mod exchanges;
 mod ledger;
 mod lists;
 mod malformed;
+mod ticks;
 mod timestamps;
 
 use crate::associations::Associations;
@@ -56,7 +57,7 @@ pub fn lines() -> Vec<Vec<u8>> {
     let mut lines = Lines(Vec::new());
     timestamps::put_lines(&mut lines);
     calendar::put_lines(&mut lines);
-    timestamps::put_ticks(&mut lines);
+    ticks::put_lines(&mut lines);
     exchanges::put_lines(&mut lines);
     clients::put_lines(&mut lines);
     lists::put_lines(&mut lines);
@@ -71,6 +72,6 @@ mod tests {
     #[test]
     fn there_are_enough() {
         let count = super::lines().len();
-        assert!((15_300..16_300).contains(&count), "{count}");
+        assert!((15_700..16_700).contains(&count), "{count}");
     }
 }

@@ -91,8 +91,7 @@ pub fn ask(r: &mut Random, line: &mut Vec<u8>) {
 }
 
 pub fn arrival(r: &mut Random, line: &mut Vec<u8>) {
-    let client = record(r, Phase::Waiting);
-    let (t4, packet) = arrived(r, &client);
+    let (client, t4, packet) = arrived(r);
     put(r, client, RecordCall::Arrival { t4, packet: &packet }, line);
 }
 

@@ -3,6 +3,7 @@
 use super::faults::{Fault, add_fault};
 use super::packets::{identifier, make_length_wrong, octets_of, put_any, put_authenticator};
 use super::replies::good_reply;
+use super::ticks::{Ticks, exchange};
 use super::timestamps::{around, timestamp};
 use crate::client::{Client, FRESH};
 use crate::conformance::call::{Call, LONGEST};
@@ -20,7 +21,18 @@ pub fn difference(r: &mut Random, line: &mut Vec<u8>) {
     Call::Difference { x, y }.put(line);
 }
 
+/// Four timestamps that mostly pass, or of clocks that tick.
 pub fn measure(r: &mut Random, line: &mut Vec<u8>) {
+    let [t1, t2, t3, t4] = if r.one_in(4) {
+        let ticks = Ticks::any(r);
+        exchange(r, ticks).readings()
+    } else {
+        measured(r)
+    };
+    Call::Measure { t1, t2, t3, t4 }.put(line);
+}
+
+fn measured(r: &mut Random) -> [u64; 4] {
     let t1 = timestamp(r);
     // Only T1 matters to what is taken of the reply.
     let client = Client { t1, ..FRESH };
@@ -44,8 +56,7 @@ pub fn measure(r: &mut Random, line: &mut Vec<u8>) {
         reply.fields.receive = timestamp(r);
         reply.fields.transmit = timestamp(r);
     }
-    let (t2, t3) = (reply.fields.receive, reply.fields.transmit);
-    Call::Measure { t1, t2, t3, t4: reply.t4 }.put(line);
+    [t1, reply.fields.receive, reply.fields.transmit, reply.t4]
 }
 
 /// The 64 bits of P or Q, often near zero, an end of the range, or half of that.

@@ -26,6 +26,17 @@ pub fn settings(r: &mut Random) -> Settings {
     }
 }
 
+/// Settings of a server that is synchronised and answers.
+pub fn legal_settings(r: &mut Random) -> Settings {
+    Settings {
+        synchronised: true,
+        leap: r.octet_below(3),
+        precision: -(r.octet_below(33) as i8),
+        identifier: identifier(r),
+        reference: timestamp(r),
+    }
+}
+
 /// T3, given T2.
 fn answered(r: &mut Random, t2: u64) -> u64 {
     match r.below(16) {

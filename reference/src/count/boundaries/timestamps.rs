@@ -1,6 +1,6 @@
 //! The boundaries of differences, of exchanges and of the sum of P and Q.
 
-use super::Marks;
+use super::{Marks, ticks};
 use crate::count::outcome::Outcome;
 use crate::refusal::Refusal::*;
 use crate::timestamp::difference;
@@ -65,6 +65,7 @@ pub fn exchange(m: &mut Marks, t: [u64; 4], outcome: Outcome) {
     exchange_order(m, &x, outcome);
     no_order(m, &x, outcome);
     order_about_no_order(m, &x, outcome);
+    ticks::exchange(m, t, x.d, outcome);
 }
 
 fn elapsed_and_hold(m: &mut Marks, x: &Exchange, outcome: Outcome) {

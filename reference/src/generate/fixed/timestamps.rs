@@ -1,4 +1,4 @@
-//! Fixed lines of differences, offsets, sums and ticks.
+//! Fixed lines of differences, offsets and sums.
 
 use super::clients::waiting;
 use super::exchanges::{arrival, reply};
@@ -59,12 +59,17 @@ fn about_no_order() -> impl Iterator<Item = [u64; 4]> {
     })
 }
 
+/// Four timestamps, measured and as an arrival.
+pub fn put_exchange(lines: &mut Lines, [t1, t2, t3, t4]: [u64; 4]) {
+    lines.call(Call::Measure { t1, t2, t3, t4 });
+    if t1 != 0 {
+        arrival(lines, &waiting(t1), t4, &reply(t2, t3), 48);
+    }
+}
+
 fn put_exchanges(lines: &mut Lines) {
-    for [t1, t2, t3, t4] in EXCHANGES.into_iter().chain(about_half()).chain(about_no_order()) {
-        lines.call(Call::Measure { t1, t2, t3, t4 });
-        if t1 != 0 {
-            arrival(lines, &waiting(t1), t4, &reply(t2, t3), 48);
-        }
+    for t in EXCHANGES.into_iter().chain(about_half()).chain(about_no_order()) {
+        put_exchange(lines, t);
     }
 }
 
@@ -89,12 +94,4 @@ pub fn put_lines(lines: &mut Lines) {
     put_exchanges(lines);
     put_differences(lines);
     put_sums(lines);
-}
-
-/// Ticks about each power of two.
-pub fn put_ticks(lines: &mut Lines) {
-    let about = (0..=33).map(|k| 1 << k).flat_map(|power| [power - 1, power, power + 1]);
-    for tick in [0, 4295, 4096, u64::MAX].into_iter().chain(about) {
-        lines.call(Call::Precision { tick });
-    }
 }
