@@ -1,9 +1,7 @@
 // The operations for a record of a list: 0E, 0F and 10.
 ghost use Prim.Native.Nat.{_≤_};
-use crate::answers::Answer;
 use crate::answers::Numbers;
 use crate::answers::numbered;
-use crate::answers::wide8;
 use crate::clients::arrived;
 use crate::clients::called;
 use crate::input::octet;
@@ -25,6 +23,12 @@ const IN_USE: usize = 2;
 const NUMBER: usize = 3;
 
 pub(crate) const RECORDS: usize = 4;
+
+// What a call gave, and the records after it.
+pub(crate) struct ListAnswer {
+    pub(crate) numbers: Numbers,
+    pub(crate) records: [Client; LARGEST_COUNT],
+}
 
 pub(crate) fn count(line: &[u8]) -> usize
     ensures { λ r. ⌜ r ≤ 255 ⌝ }
@@ -50,22 +54,20 @@ pub(crate) fn after_list(line: &[u8]) -> &[u8] {
     rest(line, RECORDS + RECORD * count(line))
 }
 
-// The answer for a line after an ask or a give-up.
-fn called_for(line: &[u8], next: CalledByValue) -> Answer {
+// The answer after an ask or a give-up.
+fn called_for(next: CalledByValue) -> ListAnswer {
     let result = next.result;
     let answer = result.answer;
     let records = next.records;
-    let in_use = wide8((result.in_use % 256) as u8);
-    Answer {
-        numbers: numbered(called(answer), 1, in_use, 0, 0, 0, 0),
+    ListAnswer {
+        numbers: numbered(0x11, called(answer), result.in_use as u64, 0, 0),
         records,
-        count: count(line),
     }
 }
 
-pub(crate) fn ask(line: &[u8], buffer: &mut [u8]) -> Answer {
+fn ask(line: &[u8], buffer: &mut [u8]) -> ListAnswer {
     let call = after_list(line);
-    let next = associations_by_value::ask(
+    called_for(associations_by_value::ask(
         records(line),
         count(line),
         octet(line, NUMBER) as usize,
@@ -75,19 +77,11 @@ pub(crate) fn ask(line: &[u8], buffer: &mut [u8]) -> Answer {
         timestamp(call, 2),
         Token(read_be64(call, 10)),
         read_be64(call, 18),
-    );
-    called_for(line, next)
+    ))
 }
 
 // What an arrival gave is seven numbers; the number in use is the eighth.
-fn with_in_use(numbers: Numbers, in_use: usize) -> Numbers {
-    let mut next = numbers;
-    next.widths[7] = 1;
-    next.values[7] = wide8((in_use % 256) as u8);
-    next
-}
-
-pub(crate) fn arrival(line: &[u8]) -> Answer {
+fn arrival(line: &[u8]) -> ListAnswer {
     let call = after_list(line);
     let next = associations_by_value::arrival(
         records(line),
@@ -100,20 +94,26 @@ pub(crate) fn arrival(line: &[u8]) -> Answer {
     let result = next.result;
     let answer = result.answer;
     let records = next.records;
-    Answer {
-        numbers: with_in_use(arrived(answer), result.in_use),
-        records,
-        count: count(line),
-    }
+    let mut numbers = arrived(answer);
+    numbers.widths = 0x1148_1811;
+    numbers.values[7] = result.in_use as u64;
+    ListAnswer { numbers, records }
 }
 
-pub(crate) fn give_up(line: &[u8]) -> Answer {
-    let next = associations_by_value::give_up(
+fn give_up(line: &[u8]) -> ListAnswer {
+    called_for(associations_by_value::give_up(
         records(line),
         count(line),
         octet(line, NUMBER) as usize,
         octet(line, IN_USE) as usize,
         read_be64(after_list(line), 0),
-    );
-    called_for(line, next)
+    ))
+}
+
+pub(crate) fn answer(operation: u8, line: &[u8], buffer: &mut [u8]) -> ListAnswer {
+    match operation {
+        0x0E => ask(line, buffer),
+        0x0F => arrival(line),
+        _ => give_up(line),
+    }
 }

@@ -1,9 +1,6 @@
 // The operations of the client: 08, 09, 0A and F0; and what a client's call gave.
-use crate::answers::Answer;
 use crate::answers::Numbers;
 use crate::answers::one;
-use crate::answers::wide8;
-use crate::answers::wide32;
 use crate::answers::with_record;
 use crate::input::octet;
 use crate::input::record;
@@ -24,17 +21,17 @@ pub(crate) fn called(answer: CallAnswer) -> u8 {
 }
 
 // What an arrival gave has one form for every kind.
-fn outcome(kind: u8, number: u8, offset: i64, half: u8, delay: i64, code: u32, row: u8) -> Numbers {
+fn outcome(kind: u64, number: u8, offset: i64, half: u8, delay: i64, code: u32, row: u8) -> Numbers {
     Numbers {
-        widths: [1, 1, 8, 1, 8, 4, 1, 0, 0, 0, 0, 0, 0, 0],
+        widths: 0x148_1811,
         values: [
-            wide8(kind),
-            wide8(number),
+            kind,
+            number as u64,
             bits64(offset),
-            wide8(half),
+            half as u64,
             bits64(delay),
-            wide32(code),
-            wide8(row),
+            code as u64,
+            row as u64,
             0,
             0,
             0,
@@ -58,7 +55,7 @@ pub(crate) fn arrived(answer: ArrivalAnswer) -> Numbers {
     }
 }
 
-pub(crate) fn ask(line: &[u8], buffer: &mut [u8]) -> Answer {
+pub(crate) fn ask(line: &[u8], buffer: &mut [u8]) -> Numbers {
     let version = octet(line, 30);
     let clock = timestamp(line, 31);
     let token = Token(read_be64(line, 39));
@@ -67,19 +64,19 @@ pub(crate) fn ask(line: &[u8], buffer: &mut [u8]) -> Answer {
     with_record(one(called(answer)), next.client)
 }
 
-pub(crate) fn arrival(line: &[u8]) -> Answer {
+pub(crate) fn arrival(line: &[u8]) -> Numbers {
     let alternate = octet(line, 37) == 1;
     let next = record(line, 1).arrival(rest(line, 38), timestamp(line, 29), alternate);
     let answer = next.answer;
     with_record(arrived(answer), next.client)
 }
 
-pub(crate) fn give_up(line: &[u8]) -> Answer {
+pub(crate) fn give_up(line: &[u8]) -> Numbers {
     let next = record(line, 1).give_up(read_be64(line, 29));
     let answer = next.answer;
     with_record(one(called(answer)), next.client)
 }
 
-pub(crate) fn fresh() -> Answer {
+pub(crate) fn fresh() -> Numbers {
     with_record(one(0), Client::fresh())
 }

@@ -12,5 +12,5 @@ pub(crate) const LONGEST_LENT: usize = 80;
 // That of operation 0F: operation, count, in use, record number, the records, a timestamp and a packet.
 pub(crate) const LONGEST_LINE: usize = 4 + RECORD * LARGEST_COUNT + 8 + LONGEST_PACKET;
 
-// Of an answer without the buffer that is lent. That of operation 0F is the longest: what the arrival gave, in use and the records.
-pub(crate) const LONGEST_NUMBERS: usize = 25 + RECORD * LARGEST_COUNT;
+// Operation 0F has the longest numbers: what the arrival gave, in use and the records.
+pub(crate) const LONGEST_ANSWER: usize = 25 + RECORD * LARGEST_COUNT + LONGEST_LENT;

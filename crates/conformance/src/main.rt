@@ -15,35 +15,45 @@ mod servers;
 mod times;
 
 use hex_decode::Line;
+use hex_encode::put_line;
 use lengths::LONGEST_LENT;
 use lengths::LONGEST_LINE;
 use libc::STDIN_FILENO;
 
-// The line so far with its octets, and whether the input goes on.
-struct State {
-    line: Line,
-    octets: [u8; LONGEST_LINE],
-    more: bool,
+fn put_list(out: &mut [u8], at: usize, operation: u8, line: &[u8], buffer: &mut [u8]) -> usize {
+    let answer = associations::answer(operation, line, buffer);
+    let records = answer.records;
+    let middle = output::put_numbers(out, at, answer.numbers);
+    let end = output::put_records(out, middle, records, associations::count(line));
+    put_line(out, end, buffer)
 }
 
-// Puts the answer to a line of these octets into the output, and answers where the next one goes.
-fn answer_line(complete: bool, line: &[u8], out: &mut [u8], at: usize) -> usize {
-    let operation = forms::operation(complete, line);
+fn put_answer(out: &mut [u8], at: usize, operation: u8, line: &[u8], buffer: &mut [u8]) -> usize {
+    if (0x0E <= operation) & (operation <= 0x10) {
+        return put_list(out, at, operation, line, buffer);
+    }
+    let end = output::put_numbers(out, at, operations::numbers(operation, line, buffer));
+    put_line(out, end, buffer)
+}
+
+// Puts the answer to a line into the output, and answers where the next one goes.
+fn answer_line(out: &mut [u8], at: usize, operation: u8, line: &[u8]) -> usize {
     let n = lent::length(operation, line);
     let mut buffer = lent::filled();
     if LONGEST_LENT < n {
         return at;
     }
-    let answer = operations::answer(operation, line, &mut buffer[0..n]);
-    output::put(out, at, answer, &buffer, n)
+    put_answer(out, at, operation, line, &mut buffer[0..n])
 }
 
-fn end_line(line: Line, octets: &[u8], out: &mut [u8], at: usize) -> usize {
+fn end_line(out: &mut [u8], at: usize, line: Line, octets: &[u8]) -> usize {
     let count = line.count;
     if octets.len() < count {
         return at;
     }
-    answer_line(line.is_complete(), &octets[0..count], out, at)
+    let part = &octets[0..count];
+    let start = output::place(out, at);
+    answer_line(out, start, forms::operation(line.is_complete(), part), part)
 }
 
 // Answers the lines that these characters end, and hands back the line that they do not end.
@@ -56,7 +66,7 @@ fn take_all(start: Line, characters: &[u8], octets: &mut [u8], out: &mut [u8]) -
         line = taken.line;
         i = taken.at;
         if i < characters.len() {
-            at = end_line(line, octets, out, at);
+            at = end_line(out, at, line, octets);
             line = Line::start();
             i += 1;
         }
@@ -65,44 +75,29 @@ fn take_all(start: Line, characters: &[u8], octets: &mut [u8], out: &mut [u8]) -
     line
 }
 
-fn take_block(state: State, characters: &[u8]) -> State {
-    let mut octets = state.octets;
-    let mut out = io::large_buffer();
-    let line = take_all(state.line, characters, &mut octets, &mut out);
-    State {
-        line,
-        octets,
-        more: 0 < characters.len(),
-    }
-}
-
-// A read error counts as the end of the input.
-fn read_block(state: State) -> State {
-    let mut block = io::large_buffer();
-    let n = io::read_full(STDIN_FILENO, &mut block);
-    take_block(state, &block[..n])
-}
-
-// A proved loop has to end, and nothing says that the input does: the loop counts its turns down, from a number that no run uses up.
-fn read_all(start: State) -> State {
-    let mut state = start;
+// Takes the input to its end; a read error counts as its end. A proved loop has to end, and nothing says that the input does: the loop counts its turns
+// down, from a number that no run uses up.
+fn read_all(block: &mut [u8], octets: &mut [u8], out: &mut [u8]) -> Line {
+    let mut line = Line::start();
     let mut turns = u64::MAX;
-    while turns > 0 && state.more {
-        state = read_block(state);
+    while turns > 0 {
+        let n = io::read_full(STDIN_FILENO, block);
+        if n == 0 {
+            return line;
+        }
+        line = take_all(line, &block[..n], octets, out);
         turns -= 1;
     }
-    state
+    line
 }
 
 // The end of the input ends a line that no line feed ended.
 fn main() {
-    let state = read_all(State {
-        line: Line::start(),
-        octets: [0; LONGEST_LINE],
-        more: true,
-    });
-    let line = state.line;
+    let mut block = io::large_buffer();
+    let mut octets = [0u8; LONGEST_LINE];
+    let mut out = io::large_buffer();
+    let line = read_all(&mut block, &mut octets, &mut out);
     if line.has_begun() {
-        take_block(state, b"\n");
+        take_all(line, b"\n", &mut octets, &mut out);
     }
 }

@@ -1,13 +1,17 @@
-// Answers as lines of hexadecimal in the output, which is written out when it is nearly full.
-use crate::answers;
-use crate::answers::Answer;
-use crate::lengths::LONGEST_LENT;
-use crate::lengths::LONGEST_NUMBERS;
+// Answers as lines of hexadecimal in the output, which is written out when it is nearly full. An index is that of the line feed that ends what stands there.
+use crate::answers::MOST;
+use crate::answers::Numbers;
+use crate::answers::numbered;
+use crate::answers::with_record;
+use crate::lengths::LARGEST_COUNT;
+use crate::lengths::LONGEST_ANSWER;
+use client::Client;
 use hex_encode::put_line;
 use libc::STDOUT_FILENO;
+use slices::write_be64;
 
 // From here on there may be no room for another line, of two characters an octet and a line feed.
-const NEARLY_FULL: usize = 65536 - (2 * (LONGEST_NUMBERS + LONGEST_LENT) + 1);
+const NEARLY_FULL: usize = 65536 - (2 * LONGEST_ANSWER + 1);
 
 // Writes out what stands before the index.
 pub(crate) fn flush(out: &[u8], at: usize) {
@@ -16,36 +20,55 @@ pub(crate) fn flush(out: &[u8], at: usize) {
     }
 }
 
+// Puts octets over the line feed at an index, and answers the index of the next line feed.
+pub(crate) fn put(out: &mut [u8], at: usize, octets: &[u8]) -> usize {
+    let end = put_line(out, at, octets);
+    if end == 0 { 0 } else { end - 1 }
+}
+
+fn put_number(out: &mut [u8], at: usize, width: usize, value: u64) -> usize {
+    let mut octets = [0u8; 8];
+    write_be64(&mut octets, 0, value);
+    if 8 < width {
+        return at;
+    }
+    put(out, at, &octets[8 - width..])
+}
+
+pub(crate) fn put_numbers(out: &mut [u8], at: usize, numbers: Numbers) -> usize {
+    let values = numbers.values;
+    let mut widths = numbers.widths;
+    let mut end = at;
+    let mut i = 0;
+    while i < MOST && 0 < widths {
+        end = put_number(out, end, (widths % 16) as usize, values[i]);
+        widths /= 16;
+        i += 1;
+    }
+    end
+}
+
+pub(crate) fn put_records(
+    out: &mut [u8],
+    at: usize,
+    records: [Client; LARGEST_COUNT],
+    count: usize,
+) -> usize {
+    let mut end = at;
+    if LARGEST_COUNT < count {
+        return end;
+    }
+    for i in 0..count {
+        end = put_numbers(out, end, with_record(numbered(0, 0, 0, 0, 0), records[i]));
+    }
+    end
+}
+
 // Where a line goes that follows what stands before the index.
-fn place(out: &[u8], at: usize) -> usize {
+pub(crate) fn place(out: &[u8], at: usize) -> usize {
     if at < NEARLY_FULL {
         return at;
     }
     flush(out, at);
     0
-}
-
-fn put_first(out: &mut [u8], at: usize, octets: &[u8], count: usize) -> usize {
-    if octets.len() < count {
-        return at;
-    }
-    put_line(out, at, &octets[0..count])
-}
-
-// Puts the line of an answer and the first octets of a buffer, and answers the index after it. The buffer's digits begin where the line feed of the
-// answer is.
-pub(crate) fn put(
-    out: &mut [u8],
-    at: usize,
-    answer: Answer,
-    buffer: &[u8; LONGEST_LENT],
-    lent: usize,
-) -> usize {
-    let mut octets = [0u8; LONGEST_NUMBERS + 7]; // the last value is put with up to seven octets that are not the number's
-    let count = answers::put(&mut octets, answer);
-    let end = put_first(out, place(out, at), &octets, count);
-    if end == 0 {
-        return 0;
-    }
-    put_first(out, end - 1, buffer, lent)
 }

@@ -1,10 +1,6 @@
 // The operations on a packet's fields: 03 and 04.
-use crate::answers::Answer;
 use crate::answers::Numbers;
 use crate::answers::one;
-use crate::answers::only_number;
-use crate::answers::wide8;
-use crate::answers::wide32;
 use crate::input::octet;
 use crate::input::rest;
 use crate::input::timestamp;
@@ -37,18 +33,18 @@ fn fields_in(line: &[u8]) -> Fields {
 
 fn numbers(fields: Fields) -> Numbers {
     Numbers {
-        widths: [1, 1, 1, 1, 1, 1, 1, 4, 4, 4, 8, 8, 8, 8],
+        widths: 0x88_8844_4111_1111,
         values: [
             0,
-            wide8(fields.leap),
-            wide8(fields.version),
-            wide8(fields.mode),
-            wide8(fields.stratum),
-            wide8(fields.poll),
-            wide8(bits8(fields.precision)),
-            wide32(bits32(fields.root_delay)),
-            wide32(fields.root_dispersion),
-            wide32(fields.identifier),
+            fields.leap as u64,
+            fields.version as u64,
+            fields.mode as u64,
+            fields.stratum as u64,
+            fields.poll as u64,
+            bits8(fields.precision) as u64,
+            bits32(fields.root_delay) as u64,
+            fields.root_dispersion as u64,
+            fields.identifier as u64,
             fields.reference.0,
             fields.originate.0,
             fields.receive.0,
@@ -64,13 +60,13 @@ pub(crate) fn read(line: &[u8]) -> Numbers {
     }
 }
 
-pub(crate) fn written(answer: WriteAnswer) -> Answer {
+pub(crate) fn written(answer: WriteAnswer) -> Numbers {
     match answer {
-        WriteAnswer::Refused(number) => only_number(number),
-        WriteAnswer::Written => only_number(0),
+        WriteAnswer::Refused(number) => one(number),
+        WriteAnswer::Written => one(0),
     }
 }
 
-pub(crate) fn write(line: &[u8], buffer: &mut [u8]) -> Answer {
+pub(crate) fn write(line: &[u8], buffer: &mut [u8]) -> Numbers {
     written(packet::write(buffer, fields_in(line)))
 }

@@ -1,9 +1,7 @@
 // The operations of the server, 0B, and of broadcast, 11 and 12.
-use crate::answers::Answer;
 use crate::answers::Numbers;
-use crate::answers::given;
+use crate::answers::numbered;
 use crate::answers::one;
-use crate::answers::only_number;
 use crate::input::octet;
 use crate::input::rest;
 use crate::input::timestamp;
@@ -25,20 +23,16 @@ fn settings(line: &[u8]) -> Settings {
     }
 }
 
-fn replied(answer: ReplyAnswer) -> Answer {
-    match answer {
-        ReplyAnswer::Refused(number) => only_number(number),
-        ReplyAnswer::Written => only_number(0),
+pub(crate) fn reply(line: &[u8], buffer: &mut [u8]) -> Numbers {
+    let t2 = timestamp(line, 16);
+    let t3 = timestamp(line, 24);
+    match server::reply(settings(line), rest(line, 33), t2, t3, buffer) {
+        ReplyAnswer::Refused(number) => one(number),
+        ReplyAnswer::Written => one(0),
     }
 }
 
-pub(crate) fn reply(line: &[u8], buffer: &mut [u8]) -> Answer {
-    let t2 = timestamp(line, 16);
-    let t3 = timestamp(line, 24);
-    replied(server::reply(settings(line), rest(line, 33), t2, t3, buffer))
-}
-
-pub(crate) fn write_broadcast(line: &[u8], buffer: &mut [u8]) -> Answer {
+pub(crate) fn write_broadcast(line: &[u8], buffer: &mut [u8]) -> Numbers {
     let version = octet(line, 16);
     let poll = octet(line, 17);
     let t3 = timestamp(line, 18);
@@ -48,6 +42,6 @@ pub(crate) fn write_broadcast(line: &[u8], buffer: &mut [u8]) -> Answer {
 pub(crate) fn broadcast_arrival(line: &[u8]) -> Numbers {
     match broadcast::arrival(rest(line, 9), timestamp(line, 1)) {
         BroadcastAnswer::Refused(number) => one(number),
-        BroadcastAnswer::Difference(difference) => given(bits64(difference)),
+        BroadcastAnswer::Difference(difference) => numbered(0x81, 0, bits64(difference), 0, 0),
     }
 }

@@ -1,10 +1,7 @@
 // The operations on timestamps, dates and ticks: 01, 02, 05, 06, 07, F1 and F2.
 use crate::answers::Numbers;
-use crate::answers::given;
 use crate::answers::numbered;
 use crate::answers::one;
-use crate::answers::wide8;
-use crate::answers::wide32;
 use crate::input::octet;
 use crate::input::signed;
 use crate::input::timestamp;
@@ -24,42 +21,37 @@ use twos_complement::bits64;
 pub(crate) fn difference(line: &[u8]) -> Numbers {
     match timestamp(line, 1).minus(timestamp(line, 9)) {
         Difference::NoOrder => one(1),
-        Difference::Units(units) => given(bits64(units)),
+        Difference::Units(units) => numbered(0x81, 0, bits64(units), 0, 0),
     }
 }
 
-fn measured(answer: OffsetAnswer) -> Numbers {
-    match answer {
+pub(crate) fn measure(line: &[u8]) -> Numbers {
+    let t1 = timestamp(line, 1);
+    let t2 = timestamp(line, 9);
+    let t3 = timestamp(line, 17);
+    let t4 = timestamp(line, 25);
+    match offset::measure(t1, t2, t3, t4) {
         OffsetAnswer::Refused(number) => one(number),
         OffsetAnswer::Measured {
             offset,
             half,
             delay,
-        } => numbered(0, 8, bits64(offset), 1, wide8(half), 8, bits64(delay)),
+        } => numbered(0x8181, 0, bits64(offset), half as u64, bits64(delay)),
     }
-}
-
-pub(crate) fn measure(line: &[u8]) -> Numbers {
-    measured(offset::measure(
-        timestamp(line, 1),
-        timestamp(line, 9),
-        timestamp(line, 17),
-        timestamp(line, 25),
-    ))
 }
 
 fn dated(date: Date) -> Numbers {
     Numbers {
-        widths: [1, 4, 1, 1, 1, 1, 1, 4, 0, 0, 0, 0, 0, 0],
+        widths: 0x4111_1141,
         values: [
             0,
-            wide32(date.year),
-            wide8(date.month),
-            wide8(date.day),
-            wide8(date.hour),
-            wide8(date.minute),
-            wide8(date.second),
-            wide32(date.fraction),
+            date.year as u64,
+            date.month as u64,
+            date.day as u64,
+            date.hour as u64,
+            date.minute as u64,
+            date.second as u64,
+            date.fraction as u64,
             0,
             0,
             0,
@@ -92,30 +84,23 @@ fn date_in(line: &[u8]) -> Date {
 pub(crate) fn timestamp_of_date(line: &[u8]) -> Numbers {
     match calendar::timestamp_of_date(date_in(line)) {
         TimestampAnswer::Refused(number) => one(number),
-        TimestampAnswer::Timestamp(t) => given(t.0),
+        TimestampAnswer::Timestamp(t) => numbered(0x81, 0, t.0, 0, 0),
     }
 }
 
 pub(crate) fn precision(line: &[u8]) -> Numbers {
     match precision::precision_of_tick(read_be64(line, 1)) {
         PrecisionAnswer::Refused(number) => one(number),
-        PrecisionAnswer::Precision(exponent) => numbered(0, 1, wide8(bits8(exponent)), 0, 0, 0, 0),
+        PrecisionAnswer::Precision(exponent) => numbered(0x11, 0, bits8(exponent) as u64, 0, 0),
     }
 }
 
 pub(crate) fn constants() -> Numbers {
-    numbered(
-        0,
-        8,
-        Timestamp::ZERO.0,
-        8,
-        Timestamp::SECOND,
-        8,
-        bits64(Timestamp::LIMIT),
-    )
+    let limit = bits64(Timestamp::LIMIT);
+    numbered(0x8881, 0, Timestamp::ZERO.0, Timestamp::SECOND, limit)
 }
 
 pub(crate) fn halve(line: &[u8]) -> Numbers {
     let halves = offset::halve(signed(line, 1), signed(line, 9));
-    numbered(0, 8, bits64(halves.offset), 1, wide8(halves.half), 0, 0)
+    numbered(0x181, 0, bits64(halves.offset), halves.half as u64, 0)
 }

@@ -1,28 +1,28 @@
--- `conformance::answers::put_numbers` is safe and ends: the index stays within the numbers, and the octets keep their number. Assumes nothing.
+-- `conformance::output::put_numbers` is safe and ends: the index stays within the numbers, and the output keeps its length. Assumes nothing.
 use Prim.Native.Nat.{_≤_, _-_}
 use mathlib.Core.Path.{_≡_}
 use lib.ListN.{length}
 use borrow.Author.Needs.{needs}
-use Rattle.conformance.proofs.answers.put_numbers.Statement.{statement}
-use Rattle.conformance.proofs.answers.put_numbers.Tie as tie
+use Rattle.conformance.proofs.output.put_numbers.Statement.{statement}
+use Rattle.conformance.proofs.output.put_numbers.Tie as tie
+use Rattle.conformance.proofs.output.put_numbers.Reads as reads
+use Rattle.conformance.proofs.output.put_numbers.Lts as lts
+use Rattle.conformance.proofs.output.put_number.Reads as put-number-reads
 
 abbrev Inv-loop : tie.InvT-loop
-Inv-loop octets₀ at widths values end₀ i₀ octets end i = (i ≤ 14) × (length octets ≡ length octets₀)
+Inv-loop out₀ at values widths₀ end₀ i₀ out widths end i = (i ≤ 14) × (length out ≡ length out₀)
 
 abbrev μ-loop : tie.MeasureT-loop
-μ-loop octets₀ at widths values end₀ i₀ octets end i = 14 - i
+μ-loop out₀ at values widths₀ end₀ i₀ out widths end i = 14 - i
 
 loop-holds : tie.Need-loop-holds Inv-loop μ-loop
 loop-holds c = search needs
 
-array-read-put-number : tie.Need-array-read-put-number Inv-loop μ-loop
-array-read-put-number c = search needs
-
 mul-put-number : tie.Need-mul-put-number Inv-loop μ-loop
 mul-put-number c = search needs
 
-array-read-put-number-2 : tie.Need-array-read-put-number-2 Inv-loop μ-loop
-array-read-put-number-2 c = search needs
+array-read-put-number : tie.Need-array-read-put-number Inv-loop μ-loop
+array-read-put-number c = search needs
 
 put-number-requires : tie.Need-put-number-requires Inv-loop μ-loop
 put-number-requires c κs = search needs
@@ -42,6 +42,12 @@ same-length c = search needs
 returns : tie.Need-returns Inv-loop μ-loop
 returns c = search needs
 
+same-length-2 : tie.Need-same-length-2 Inv-loop μ-loop
+same-length-2 c = search needs
+
+returns-2 : tie.Need-returns-2 Inv-loop μ-loop
+returns-2 c = search needs
+
 pub put-numbers-spec : {M : Type 1} → statement M
 put-numbers-spec =
     tie.close
@@ -49,12 +55,13 @@ put-numbers-spec =
     Inv-loop
     μ-loop
     loop-holds
-    array-read-put-number
     mul-put-number
-    array-read-put-number-2
+    array-read-put-number
     put-number-requires
     add-i
     loop-less
     loop-again
     same-length
-    returns)
+    returns
+    same-length-2
+    returns-2)
