@@ -2,22 +2,15 @@
 use client::Client;
 use client::Phase;
 
-// A call's number and a packet's fields; or what an arrival gave and a record.
+// At most fourteen numbers: a call's number and a packet's fields; or what an arrival gave and a record. The first value is their widths: it has a
+// hexadecimal digit for each, the last digit for the first number, that is how many octets the number has, and 0 where there is none.
 pub(crate) const MOST: usize = 14;
 
-// The values from the left. The widths have a hexadecimal digit for each, the last digit for the first value: of how many octets the number is, and 0 where
-// there is none.
-pub(crate) struct Numbers {
-    pub(crate) widths: u64,
-    pub(crate) values: [u64; MOST],
-}
+pub(crate) type Numbers = [u64; MOST + 1];
 
 // A call's number, and up to three numbers after it.
 pub(crate) fn numbered(widths: u64, number: u8, x: u64, y: u64, z: u64) -> Numbers {
-    Numbers {
-        widths,
-        values: [number as u64, x, y, z, 0, 0, 0, 0, 0, 0, 0, 0, 0, 0],
-    }
+    [widths, number as u64, x, y, z, 0, 0, 0, 0, 0, 0, 0, 0, 0, 0]
 }
 
 pub(crate) fn one(number: u8) -> Numbers {
@@ -36,13 +29,13 @@ fn phase_octet(phase: Phase) -> u64 {
 pub(crate) fn with_record(numbers: Numbers, client: Client) -> Numbers {
     let phase = client.phase;
     let mut next = numbers;
-    next.widths = numbers.widths % 0x1000_0000 + 0x0018_1188_1000_0000;
-    next.values[7] = phase_octet(phase);
-    next.values[8] = client.t1.0;
-    next.values[9] = client.token.0;
-    next.values[10] = client.version as u64;
-    next.values[11] = client.asked as u64;
-    next.values[12] = client.uptime;
-    next.values[13] = client.exponent as u64;
+    next[0] = numbers[0] % 0x1000_0000 + 0x0018_1188_1000_0000;
+    next[8] = phase_octet(phase);
+    next[9] = client.t1.0;
+    next[10] = client.token.0;
+    next[11] = client.version as u64;
+    next[12] = client.asked as u64;
+    next[13] = client.uptime;
+    next[14] = client.exponent as u64;
     next
 }

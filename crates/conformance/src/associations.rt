@@ -95,8 +95,8 @@ fn arrival(line: &[u8]) -> ListAnswer {
     let answer = result.answer;
     let records = next.records;
     let mut numbers = arrived(answer);
-    numbers.widths = 0x1148_1811;
-    numbers.values[7] = result.in_use as u64;
+    numbers[0] = 0x1148_1811;
+    numbers[8] = result.in_use as u64;
     ListAnswer { numbers, records }
 }
 

@@ -22,25 +22,23 @@ pub(crate) fn called(answer: CallAnswer) -> u8 {
 
 // What an arrival gave has one form for every kind.
 fn outcome(kind: u64, number: u8, offset: i64, half: u8, delay: i64, code: u32, row: u8) -> Numbers {
-    Numbers {
-        widths: 0x148_1811,
-        values: [
-            kind,
-            number as u64,
-            bits64(offset),
-            half as u64,
-            bits64(delay),
-            code as u64,
-            row as u64,
-            0,
-            0,
-            0,
-            0,
-            0,
-            0,
-            0,
-        ],
-    }
+    [
+        0x148_1811,
+        kind,
+        number as u64,
+        bits64(offset),
+        half as u64,
+        bits64(delay),
+        code as u64,
+        row as u64,
+        0,
+        0,
+        0,
+        0,
+        0,
+        0,
+        0,
+    ]
 }
 
 pub(crate) fn arrived(answer: ArrivalAnswer) -> Numbers {

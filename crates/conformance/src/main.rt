@@ -22,8 +22,9 @@ use libc::STDIN_FILENO;
 
 fn put_list(out: &mut [u8], at: usize, operation: u8, line: &[u8], buffer: &mut [u8]) -> usize {
     let answer = associations::answer(operation, line, buffer);
+    let numbers = answer.numbers;
     let records = answer.records;
-    let middle = output::put_numbers(out, at, answer.numbers);
+    let middle = output::put_numbers(out, at, numbers);
     let end = output::put_records(out, middle, records, associations::count(line));
     put_line(out, end, buffer)
 }

@@ -36,12 +36,11 @@ fn put_number(out: &mut [u8], at: usize, width: usize, value: u64) -> usize {
 }
 
 pub(crate) fn put_numbers(out: &mut [u8], at: usize, numbers: Numbers) -> usize {
-    let values = numbers.values;
-    let mut widths = numbers.widths;
+    let mut widths = numbers[0];
     let mut end = at;
-    let mut i = 0;
-    while i < MOST && 0 < widths {
-        end = put_number(out, end, (widths % 16) as usize, values[i]);
+    let mut i = 1;
+    while i <= MOST && 0 < widths {
+        end = put_number(out, end, (widths % 16) as usize, numbers[i]);
         widths /= 16;
         i += 1;
     }

@@ -32,25 +32,23 @@ fn fields_in(line: &[u8]) -> Fields {
 }
 
 fn numbers(fields: Fields) -> Numbers {
-    Numbers {
-        widths: 0x88_8844_4111_1111,
-        values: [
-            0,
-            fields.leap as u64,
-            fields.version as u64,
-            fields.mode as u64,
-            fields.stratum as u64,
-            fields.poll as u64,
-            bits8(fields.precision) as u64,
-            bits32(fields.root_delay) as u64,
-            fields.root_dispersion as u64,
-            fields.identifier as u64,
-            fields.reference.0,
-            fields.originate.0,
-            fields.receive.0,
-            fields.transmit.0,
-        ],
-    }
+    [
+        0x88_8844_4111_1111,
+        0,
+        fields.leap as u64,
+        fields.version as u64,
+        fields.mode as u64,
+        fields.stratum as u64,
+        fields.poll as u64,
+        bits8(fields.precision) as u64,
+        bits32(fields.root_delay) as u64,
+        fields.root_dispersion as u64,
+        fields.identifier as u64,
+        fields.reference.0,
+        fields.originate.0,
+        fields.receive.0,
+        fields.transmit.0,
+    ]
 }
 
 pub(crate) fn read(line: &[u8]) -> Numbers {

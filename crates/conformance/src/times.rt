@@ -41,25 +41,23 @@ pub(crate) fn measure(line: &[u8]) -> Numbers {
 }
 
 fn dated(date: Date) -> Numbers {
-    Numbers {
-        widths: 0x4111_1141,
-        values: [
-            0,
-            date.year as u64,
-            date.month as u64,
-            date.day as u64,
-            date.hour as u64,
-            date.minute as u64,
-            date.second as u64,
-            date.fraction as u64,
-            0,
-            0,
-            0,
-            0,
-            0,
-            0,
-        ],
-    }
+    [
+        0x4111_1141,
+        0,
+        date.year as u64,
+        date.month as u64,
+        date.day as u64,
+        date.hour as u64,
+        date.minute as u64,
+        date.second as u64,
+        date.fraction as u64,
+        0,
+        0,
+        0,
+        0,
+        0,
+        0,
+    ]
 }
 
 pub(crate) fn date(line: &[u8]) -> Numbers {

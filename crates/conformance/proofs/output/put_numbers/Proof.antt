@@ -10,10 +10,13 @@ use Rattle.conformance.proofs.output.put_numbers.Lts as lts
 use Rattle.conformance.proofs.output.put_number.Reads as put-number-reads
 
 abbrev Inv-loop : tie.InvT-loop
-Inv-loop out₀ at values widths₀ end₀ i₀ out widths end i = (i ≤ 14) × (length out ≡ length out₀)
+Inv-loop out₀ at numbers widths₀ end₀ i₀ out widths end i = (i ≤ 15) × (length out ≡ length out₀)
 
 abbrev μ-loop : tie.MeasureT-loop
-μ-loop out₀ at values widths₀ end₀ i₀ out widths end i = 14 - i
+μ-loop out₀ at numbers widths₀ end₀ i₀ out widths end i = 15 - i
+
+array-read-widths : tie.Need-array-read-widths Inv-loop μ-loop
+array-read-widths c = search needs
 
 loop-holds : tie.Need-loop-holds Inv-loop μ-loop
 loop-holds c = search needs
@@ -54,6 +57,7 @@ put-numbers-spec =
     (tie.spec
     Inv-loop
     μ-loop
+    array-read-widths
     loop-holds
     mul-put-number
     array-read-put-number
