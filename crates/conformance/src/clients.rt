@@ -21,7 +21,15 @@ pub(crate) fn called(answer: CallAnswer) -> u8 {
 }
 
 // What an arrival gave has one form for every kind.
-fn outcome(kind: u64, number: u8, offset: i64, half: u8, delay: i64, code: u32, row: u8) -> Numbers {
+fn outcome(
+    kind: u64,
+    number: u8,
+    offset: i64,
+    half: u8,
+    delay: i64,
+    code: u32,
+    row: u8,
+) -> Numbers {
     [
         0x148_1811,
         kind,
