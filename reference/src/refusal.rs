@@ -47,13 +47,14 @@ pub enum Refusal {
     PollOutOfRange = 41,
     TokenZero = 42,
     NoOrder = 43,
+    FieldNotAdded = 44,
     LineMalformed = 64,
 }
 
 use Refusal::*;
 
 /// All refusals, in the order of their numbers.
-const ALL: [Refusal; 44] = [
+const ALL: [Refusal; 45] = [
     BufferTooShort,
     VersionUnsupported,
     OwnClockZero,
@@ -97,6 +98,7 @@ const ALL: [Refusal; 44] = [
     PollOutOfRange,
     TokenZero,
     NoOrder,
+    FieldNotAdded,
     LineMalformed,
 ];
 

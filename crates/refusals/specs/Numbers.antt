@@ -176,6 +176,10 @@ token-zero = 42
 abbrev pub no-order : ℕ
 no-order = 43
 
+-- extension field not added: an authenticator at the end of the packet, or no room in the buffer or in 1024 octets
+abbrev pub field-not-added : ℕ
+field-not-added = 44
+
 -- replay line malformed
 abbrev pub line-malformed : ℕ
 line-malformed = 64
@@ -226,6 +230,7 @@ numbers =
     ∷ poll-out-of-range
     ∷ token-zero
     ∷ no-order
+    ∷ field-not-added
     ∷ line-malformed
     ∷ []
 

@@ -131,11 +131,14 @@ pub const TOKEN_ZERO: u8 = 42;
 // Two timestamps exactly 2^63 units apart: no order.
 pub const NO_ORDER: u8 = 43;
 
+// Extension field not added: an authenticator at the end of the packet, or no room in the buffer or in 1024 octets.
+pub const FIELD_NOT_ADDED: u8 = 44;
+
 // Replay line malformed.
 pub const LINE_MALFORMED: u8 = 64;
 
 // All of them, in the order of the rules' table.
-pub fn numbers() -> [u8; 44]
+pub fn numbers() -> [u8; 45]
     ensures { λ r. ⌜ r ≡ numbers ⌝ }
 {
     [
@@ -182,6 +185,7 @@ pub fn numbers() -> [u8; 44]
         POLL_OUT_OF_RANGE,
         TOKEN_ZERO,
         NO_ORDER,
+        FIELD_NOT_ADDED,
         LINE_MALFORMED,
     ]
 }
