@@ -44,7 +44,7 @@ are-take zero p h = λ i. omega arith
 are-take (suc n) [] h = λ i. omega arith
 are-take (suc n) (x ∷ p) h = are-cons x (take n p) (h 0) (are-take n p (λ i. h (suc i)))
 
-are-part : (at n : ℕ) (p : List ℕ) → AreOctets p → AreOctets (part at n p)
+pub are-part : (at n : ℕ) (p : List ℕ) → AreOctets p → AreOctets (part at n p)
 are-part at n p h = are-take n (drop at p) (λ i. rw getD-drop (h (at + i)))
 
 pub bigEndian-lt : (xs : List ℕ) → AreOctets xs → bigEndian xs < 256 ^ length xs
@@ -114,6 +114,9 @@ length-part at n p h = length-take-le n (drop at p) (rw length-drop (omega arith
 pub number-add : (at m n : ℕ) (p : List ℕ) → at + (m + n) ≤ length p
     → bigEndian (part at (m + n) p) ≡ bigEndian (part at m p) * 256 ^ n + bigEndian (part (at + m) n p)
 number-add at m n p h = rw (part-add, bigEndian-append, length-part (at + m) n p (omega arith))
+
+pub part-two : (at : ℕ) (p : List ℕ) → at + 2 ≤ length p → part at 2 p ≡ getD p at 0 ∷ getD p (at + 1) 0 ∷ []
+part-two at p h = rw (part-cons at 1 p (omega arith), part-cons (at + 1) 0 p (omega arith))
 
 pub part-four : (at : ℕ) (p : List ℕ) → at + 4 ≤ length p
     → part at 4 p ≡ getD p at 0 ∷ getD p (at + 1) 0 ∷ getD p (at + 2) 0 ∷ getD p (at + 3) 0 ∷ []

@@ -4,6 +4,13 @@ ghost use mathlib.Core.List.{[], _∷_, reverse};
 ghost use Prim.Native.Nat.{_+_, _*_, _^_};
 ghost use Rattle.arithmetic.specs.Octets.{bigEndian, octets};
 
+// The number of two octets, the highest first.
+pub fn be16(a: u8, b: u8) -> u16
+    ensures { λ r. ⌜ r ≡ bigEndian (a ∷ b ∷ []) ⌝ }
+{
+    (a as u16) * 256 + (b as u16)
+}
+
 // The number of four octets, the highest first.
 pub fn be32(a: u8, b: u8, c: u8, d: u8) -> u32
     ensures { λ r. ⌜ r ≡ bigEndian (a ∷ b ∷ c ∷ d ∷ []) ⌝ }

@@ -7,6 +7,7 @@ ghost use lib.ListN.{length};
 ghost use lib.Seq.{sets};
 ghost use Rattle.arithmetic.specs.Octets.{bigEndian, octets, part};
 ghost use Rattle.slices.specs.Slices.{readAt, writeAt, writeReversedAt};
+use octets::be16;
 use octets::be32;
 use octets::from_halves;
 use octets::swap_octets32;
@@ -32,6 +33,14 @@ fn has_room(length: usize, at: usize, n: usize) -> bool
     true
 }
 
+// The number of the two octets from index at on.
+fn load_be16(p: &[u8], at: usize) -> u16
+    requires { ⌜ at + 2 ≤ length (now p) ⌝ }
+    ensures { λ r. ⌜ r ≡ bigEndian (part at 2 (now (p .entry))) ⌝ }
+{
+    be16(p[at], p[at + 1])
+}
+
 // The number of the four octets from index at on. Joined from the lowest octet up and then reversed, the four loads are compiled to one.
 fn load_be32(p: &[u8], at: usize) -> u32
     requires { ⌜ at + 4 ≤ length (now p) ⌝ }
@@ -45,6 +54,17 @@ fn load_be64(p: &[u8], at: usize) -> u64
     ensures { λ r. ⌜ r ≡ bigEndian (part at 8 (now (p .entry))) ⌝ }
 {
     from_halves(load_be32(p, at), load_be32(p, at + 4))
+}
+
+// The number of the two octets from index at on, and 0 where there are not so many.
+pub fn read_be16(p: &[u8], at: usize) -> u16
+    ensures { λ r. ⌜ r ≡ readAt 2 (now (p .entry)) at ⌝ }
+{
+    if has_room(p.len(), at, 2) {
+        load_be16(p, at)
+    } else {
+        0
+    }
 }
 
 // The number of the four octets from index at on, and 0 where there are not so many.
