@@ -1,0 +1,6 @@
+pub mod Tail
+pub mod Reading
+pub mod Reader
+pub mod TailLaws
+pub mod ReaderLaws
+pub mod WrongReaders
