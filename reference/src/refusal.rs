@@ -153,7 +153,7 @@ mod tests {
     #[test]
     fn numbers_there_and_back() {
         for number in 0..=255 {
-            let known = (1..=43).contains(&number) || number == 64;
+            let known = (1..=44).contains(&number) || number == 64;
             let back = Refusal::of_number(number).map(Refusal::number);
             assert_eq!(back, known.then_some(number));
         }
