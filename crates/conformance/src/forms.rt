@@ -1,14 +1,15 @@
 // Which lines are well formed, as docs/CONFORMANCE.md has it.
-use crate::associations::RECORDS;
-use crate::associations::count;
-use crate::input::octet;
-use crate::input::rest;
-use crate::lengths::LARGEST_COUNT;
 use crate::lengths::LONGEST_LENT;
 use crate::lengths::LONGEST_LINE;
 use crate::lengths::LONGEST_PACKET;
-use crate::lengths::RECORD;
 use crate::lent;
+use crate::operations::is_list;
+use conformance_associations::MOST_RECORDS;
+use conformance_associations::RECORD;
+use conformance_associations::RECORDS;
+use conformance_associations::count;
+use slices::from_index;
+use slices::octet_or_zero;
 
 // The length of a line up to its packet, without the records of a list. No line is so long that its operation is not listed.
 fn head_length(operation: u8) -> usize {
@@ -39,12 +40,12 @@ fn longest_packet(operation: u8) -> usize {
 
 // Phase and ever asked have few values.
 fn is_record(line: &[u8], at: usize) -> bool {
-    let part = rest(line, at);
-    (octet(part, 0) <= 2) & (octet(part, 18) <= 1)
+    let part = from_index(line, at);
+    (octet_or_zero(part, 0) <= 2) & (octet_or_zero(part, 18) <= 1)
 }
 
-fn is_list(line: &[u8], count: usize) -> bool {
-    if LARGEST_COUNT < count {
+fn are_records(line: &[u8], count: usize) -> bool {
+    if MOST_RECORDS < count {
         return false;
     }
     for i in 0..count {
@@ -59,17 +60,18 @@ fn is_list(line: &[u8], count: usize) -> bool {
 fn has_legal_values(operation: u8, line: &[u8]) -> bool {
     match operation {
         0x08 | 0x0A => is_record(line, 1),
-        0x09 => is_record(line, 1) & (octet(line, RECORD + 9) <= 1),
-        0x0B | 0x11 => octet(line, 1) <= 1,
-        0x0E..=0x10 => is_list(line, count(line)),
+        0x09 => is_record(line, 1) & (octet_or_zero(line, RECORD + 9) <= 1),
+        0x0B | 0x11 => octet_or_zero(line, 1) <= 1,
+        0x0E..=0x10 => are_records(line, count(line) as usize),
         _ => true,
     }
 }
 
 fn records_length(operation: u8, line: &[u8]) -> usize {
-    match operation {
-        0x0E..=0x10 => RECORD * count(line),
-        _ => 0,
+    if is_list(operation) {
+        RECORD * (count(line) as usize)
+    } else {
+        0
     }
 }
 
@@ -88,7 +90,7 @@ fn has_length(operation: u8, line: &[u8]) -> bool {
 
 // The operation of a line whose octets are complete, and 0, which is none, where the line is not well formed.
 pub(crate) fn operation(complete: bool, line: &[u8]) -> u8 {
-    let operation = octet(line, 0);
+    let operation = octet_or_zero(line, 0);
     let lent = lent::length(operation, line);
     if complete
         & has_length(operation, line)

@@ -1,16 +1,14 @@
-// Lengths in octets, and the largest count of records, as docs/CONFORMANCE.md gives them.
-
-pub(crate) const RECORD: usize = 28;
-
-// One record more than a list may have.
-pub(crate) const LARGEST_COUNT: usize = 9;
+// Lengths in octets, as docs/CONFORMANCE.md gives them.
+use conformance_associations::MOST_RECORDS;
+use conformance_associations::RECORD;
+use conformance_associations::RECORDS;
 
 pub(crate) const LONGEST_PACKET: usize = 80;
 
 pub(crate) const LONGEST_LENT: usize = 80;
 
 // That of operation 0F: operation, count, in use, record number, the records, a timestamp and a packet.
-pub(crate) const LONGEST_LINE: usize = 4 + RECORD * LARGEST_COUNT + 8 + LONGEST_PACKET;
+pub(crate) const LONGEST_LINE: usize = RECORDS + RECORD * MOST_RECORDS + 8 + LONGEST_PACKET;
 
 // Operation 0F has the longest numbers: what the arrival gave, in use and the records.
-pub(crate) const LONGEST_ANSWER: usize = 25 + RECORD * LARGEST_COUNT + LONGEST_LENT;
+pub(crate) const LONGEST_ANSWER: usize = 25 + RECORD * MOST_RECORDS + LONGEST_LENT;

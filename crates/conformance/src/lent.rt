@@ -1,17 +1,17 @@
 // The buffer that is lent to a call.
-use crate::associations::after_list;
-use crate::input::octet;
 use crate::lengths::LONGEST_LENT;
-use crate::lengths::RECORD;
+use conformance_associations::RECORD;
+use conformance_associations::after_list;
+use slices::octet_or_zero;
 
 // How many octets a line asks to be lent.
 pub(crate) fn length(operation: u8, line: &[u8]) -> usize {
     let n = match operation {
-        0x04 => octet(line, 1),
-        0x08 => octet(line, 1 + RECORD),
-        0x0B => octet(line, 32),
-        0x0E => octet(after_list(line), 0),
-        0x11 => octet(line, 26),
+        0x04 => octet_or_zero(line, 1),
+        0x08 => octet_or_zero(line, 1 + RECORD),
+        0x0B => octet_or_zero(line, 32),
+        0x0E => octet_or_zero(after_list(line), 0),
+        0x11 => octet_or_zero(line, 26),
         _ => 0,
     };
     n as usize

@@ -1,19 +1,12 @@
 // Reads lines from standard input, each an operation on the proved parts, and writes one answer a line to standard output.
 // docs/CONFORMANCE.md has the format of the lines.
-mod answers;
-mod associations;
-mod clients;
 mod forms;
-mod input;
-mod ledgers;
 mod lengths;
 mod lent;
 mod operations;
 mod output;
-mod packets;
-mod servers;
-mod times;
 
+use conformance_parts::record_numbers;
 use hex_decode::Line;
 use hex_encode::put_line;
 use lengths::LONGEST_LENT;
@@ -21,20 +14,42 @@ use lengths::LONGEST_LINE;
 use libc::STDIN_FILENO;
 
 fn put_list(out: &mut [u8], at: usize, operation: u8, line: &[u8], buffer: &mut [u8]) -> usize {
-    let answer = associations::answer(operation, line, buffer);
+    let answer = conformance_associations::answer(operation, line, buffer);
     let numbers = answer.numbers;
     let records = answer.records;
     let middle = output::put_numbers(out, at, numbers);
-    let end = output::put_records(out, middle, records, associations::count(line));
+    let end = output::put_records(
+        out,
+        middle,
+        records,
+        conformance_associations::count(line) as usize,
+    );
+    put_line(out, end, buffer)
+}
+
+fn put_client(out: &mut [u8], at: usize, operation: u8, line: &[u8], buffer: &mut [u8]) -> usize {
+    let answer = conformance_clients::answer(operation, line, buffer);
+    let numbers = answer.numbers;
+    let client = answer.client;
+    let middle = output::put_numbers(out, at, numbers);
+    let end = output::put_numbers(out, middle, record_numbers(client));
+    put_line(out, end, buffer)
+}
+
+fn put_numbers(out: &mut [u8], at: usize, operation: u8, line: &[u8], buffer: &mut [u8]) -> usize {
+    let numbers = conformance_operations::answer(operation, line, buffer);
+    let end = output::put_numbers(out, at, numbers);
     put_line(out, end, buffer)
 }
 
 fn put_answer(out: &mut [u8], at: usize, operation: u8, line: &[u8], buffer: &mut [u8]) -> usize {
-    if (0x0E <= operation) & (operation <= 0x10) {
+    if operations::is_list(operation) {
         return put_list(out, at, operation, line, buffer);
     }
-    let end = output::put_numbers(out, at, operations::numbers(operation, line, buffer));
-    put_line(out, end, buffer)
+    if operations::is_client(operation) {
+        return put_client(out, at, operation, line, buffer);
+    }
+    put_numbers(out, at, operation, line, buffer)
 }
 
 // Puts the answer to a line into the output, and answers where the next one goes.

@@ -1,11 +1,10 @@
 // Answers as lines of hexadecimal in the output, which is written out when it is nearly full. An index is that of the line feed that ends what stands there.
-use crate::answers::MOST;
-use crate::answers::Numbers;
-use crate::answers::numbered;
-use crate::answers::with_record;
-use crate::lengths::LARGEST_COUNT;
 use crate::lengths::LONGEST_ANSWER;
 use client::Client;
+use conformance_associations::MOST_RECORDS;
+use conformance_parts::MOST;
+use conformance_parts::Numbers;
+use conformance_parts::record_numbers;
 use hex_encode::put_line;
 use libc::STDOUT_FILENO;
 use slices::write_be64;
@@ -50,15 +49,15 @@ pub(crate) fn put_numbers(out: &mut [u8], at: usize, numbers: Numbers) -> usize 
 pub(crate) fn put_records(
     out: &mut [u8],
     at: usize,
-    records: [Client; LARGEST_COUNT],
+    records: [Client; MOST_RECORDS],
     count: usize,
 ) -> usize {
     let mut end = at;
-    if LARGEST_COUNT < count {
+    if MOST_RECORDS < count {
         return end;
     }
     for i in 0..count {
-        end = put_numbers(out, end, with_record(numbered(0, 0, 0, 0, 0), records[i]));
+        end = put_numbers(out, end, record_numbers(records[i]));
     }
     end
 }

@@ -1,7 +1,7 @@
 // An extension field (RFC 7822) added at the end of a packet.
 ghost use mathlib.Core.Path.{_≡_};
 ghost use Prim.Native.Nat.{_+_, _≤_};
-ghost use lib.ListN.{length, getD};
+ghost use lib.ListN.{length};
 ghost use lib.Seq.{sets};
 ghost use Rattle.ordered_tests.specs.Tests.{number};
 ghost use Rattle.extension.specs.Tail.{maximumLength};
@@ -36,13 +36,6 @@ fn no_room(capacity: usize, size: usize, n: usize) -> bool
     limit - size < 4 + filled_length(n)
 }
 
-// The octet at index i, and 0 behind the last one.
-fn octet_or_zero(body: &[u8], i: usize) -> u8
-    ensures { λ r. ⌜ r ≡ getD (now (body .entry)) i 0 ⌝ }
-{
-    if i < body.len() { body[i] } else { 0 }
-}
-
 // Stores a body and its fill, n octets, from index at on.
 fn store_filled(b: &mut [u8], at: usize, body: &[u8], n: usize)
     requires { ⌜ (at + n ≤ length (now b)) × (length (now body) ≤ n) ⌝ }
@@ -50,7 +43,7 @@ fn store_filled(b: &mut [u8], at: usize, body: &[u8], n: usize)
 {
     let mut i = 0;
     while i < n {
-        b[at + i] = octet_or_zero(body, i);
+        b[at + i] = slices::octet_or_zero(body, i);
         i += 1;
     }
 }

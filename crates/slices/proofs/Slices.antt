@@ -1,15 +1,30 @@
 -- Laws of numbers in a list of octets, over the count of octets. Assumes nothing.
-use Prim.Native.Nat.{ℕ, _+_, _/_, _%_, _^_, _≤_}
+use Prim.Native.Nat.{ℕ, _+_, _-_, _/_, _%_, _^_, min, _≤_, _<_}
+use native.Mathlib.Decide.{decLt}
+use native.Mathlib.Omega.{arith}
 use mathlib.Core.Path.{_≡_, sym, _∙_}
 use mathlib.Core.Bool.{Bool, true, false}
-use mathlib.Core.List.{List, reverse, reverse-append}
+use mathlib.Core.List.{List, [], reverse, reverse-append}
 use borrow.Author.Tests.{le-leb}
 use lib.Dec.{leb}
-use lib.ListN.{length, length-reverse}
-use lib.Seq.{sets}
+use lib.ListN.{length, take, drop, length-reverse, length-drop, drop-of-length-le}
+use lib.Seq.{sets, take-all}
 use Rattle.arithmetic.specs.Octets.{bigEndian, octets, part}
 use Rattle.arithmetic.proofs.Octets.{length-octets, octets-add, octets-mod, sets-append}
 use Rattle.slices.specs.Slices.{readAt, writeAt, writeReversedAt}
+
+-- the part from an index to the end, where the index is moved back to the end
+pub from-index : (p : List ℕ) (at first : ℕ) → first ≡ min at (length p) → take (length p - first) (drop first p) ≡ drop at p
+from-index p at first e = go (decLt at (length p))
+  where
+    go : Dec (at < length p) → take (length p - first) (drop first p) ≡ drop at p
+    go (yes h) =
+        let u : first ≡ at = omega arith in
+        rw u (take-all (length p - at) (drop at p) (rw length-drop (omega arith)))
+    go (no h) =
+        let u : length p - first ≡ 0 = omega arith in
+        let v : drop at p ≡ [] = drop-of-length-le p {i = at} (omega arith) in
+        rw (u, v)
 
 module _ (n : ℕ) (p : List ℕ) (at : ℕ) where
   -- what the test whether there is room tells, by its answer r

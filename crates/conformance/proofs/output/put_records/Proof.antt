@@ -5,11 +5,6 @@ use lib.ListN.{length}
 use borrow.Author.Needs.{needs}
 use Rattle.conformance.proofs.output.put_records.Statement.{statement}
 use Rattle.conformance.proofs.output.put_records.Tie as tie
-use Rattle.conformance.proofs.output.put_records.Reads as reads
-use Rattle.conformance.proofs.output.put_records.Lts as lts
-use Rattle.conformance.proofs.answers.numbered.Reads as numbered-reads
-use Rattle.conformance.proofs.answers.with_record.Reads as with-record-reads
-use Rattle.conformance.proofs.output.put_numbers.Reads as put-numbers-reads
 
 abbrev Inv-loop : tie.InvT-loop
 Inv-loop out₀ at count records end₀ i₀ out end i = (i ≤ count) × (count ≤ 9) × (length out ≡ length out₀)
@@ -23,17 +18,14 @@ returns c = search needs
 loop-holds : tie.Need-loop-holds Inv-loop μ-loop
 loop-holds c = search needs
 
-numbered-requires : tie.Need-numbered-requires Inv-loop μ-loop
-numbered-requires c κs = search needs
+mul-record-numbers : tie.Need-mul-record-numbers Inv-loop μ-loop
+mul-record-numbers c = search needs
 
-mul-with-record : tie.Need-mul-with-record Inv-loop μ-loop
-mul-with-record c = search needs
+array-copy-out-record-numbers : tie.Need-array-copy-out-record-numbers Inv-loop μ-loop
+array-copy-out-record-numbers c = search needs
 
-array-copy-out-with-record : tie.Need-array-copy-out-with-record Inv-loop μ-loop
-array-copy-out-with-record c = search needs
-
-with-record-requires : tie.Need-with-record-requires Inv-loop μ-loop
-with-record-requires c κs = search needs
+record-numbers-requires : tie.Need-record-numbers-requires Inv-loop μ-loop
+record-numbers-requires c κs = search needs
 
 put-numbers-requires : tie.Need-put-numbers-requires Inv-loop μ-loop
 put-numbers-requires c κs = search needs
@@ -61,10 +53,9 @@ put-records-spec =
     μ-loop
     returns
     loop-holds
-    numbered-requires
-    mul-with-record
-    array-copy-out-with-record
-    with-record-requires
+    mul-record-numbers
+    array-copy-out-record-numbers
+    record-numbers-requires
     put-numbers-requires
     add-i
     loop-less

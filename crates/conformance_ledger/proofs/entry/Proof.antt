@@ -1,0 +1,29 @@
+-- `conformance_ledger::entry` meets its contract. Assumes nothing.
+use borrow.Author.Needs.{needs}
+use mir.Syntax.{w64}
+use Rattle.arithmetic.proofs.Machine.{held-result}
+use Rattle.conformance_ledger.specs.Ledger.{entryIn}
+use Rattle.conformance_ledger.proofs.entry.Statement.{statement}
+use Rattle.conformance_ledger.proofs.entry.Tie as tie
+
+returns : tie.Need-returns
+unfolding entryIn
+returns c =
+    rw (
+      c .entry-numbers .ensures,
+      c .before .entry .ensures,
+      c .before .before .octet-or-zero .ensures,
+      held-result w64 (c .before .before .before .signed .ok) (c .before .before .before .signed .ensures),
+      c .before .before .before .before .ledger .ensures,
+    )
+
+pub entry-spec : {M : Type 1} → statement M
+entry-spec =
+    tie.close
+    (tie.spec
+    (λ c κs. search needs)
+    (λ c κs. search needs)
+    (λ c κs. search needs)
+    (λ c κs. search needs)
+    (λ c κs. search needs)
+    returns)

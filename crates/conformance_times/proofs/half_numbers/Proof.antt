@@ -1,0 +1,15 @@
+-- `conformance_times::half_numbers` meets its contract. Assumes nothing.
+use borrow.Author.Needs.{needs}
+use mir.Facts.{toZ-ofZ}
+use mir.Syntax.{w64}
+use mir.Val.{SFits}
+use Rattle.conformance_times.proofs.half_numbers.Statement.{statement}
+use Rattle.conformance_times.proofs.half_numbers.Tie as tie
+
+returns : tie.Need-returns
+returns c =
+    let o : SFits w64 (c .before .before .before .before .args .halves .offset) = search needs in
+    rw (c .numbered .ensures, c .before .before .bits64 .ensures, toZ-ofZ o)
+
+pub half-numbers-spec : {M : Type 1} → statement M
+half-numbers-spec = tie.close (tie.spec (λ c κs. search needs) (λ c. search needs) (λ c κs. search needs) returns)
