@@ -10,27 +10,23 @@ use Rattle.conformance_packets.specs.Packets as packets
 use Rattle.conformance_servers.specs.Servers as servers
 use Rattle.conformance_ledger.specs.Ledger as ledger
 
-unfoldable pub ofTimes : ℕ → Bool
-ofTimes operation =
-    eqb operation 0x01 || eqb operation 0x02 || eqb operation 0x05 || eqb operation 0x06 || eqb operation 0x07 || eqb operation 0xF1 || eqb operation 0xF2
-
-unfoldable pub ofPackets : ℕ → Bool
+abbrev pub ofPackets : ℕ → Bool
 ofPackets operation = eqb operation 0x03 || eqb operation 0x04
 
-unfoldable pub ofServers : ℕ → Bool
+abbrev pub ofServers : ℕ → Bool
 ofServers operation = eqb operation 0x0B || eqb operation 0x11 || eqb operation 0x12
 
-unfoldable pub ofLedger : ℕ → Bool
+abbrev pub ofLedger : ℕ → Bool
 ofLedger operation = eqb operation 0x0C || eqb operation 0x0D
 
--- an operation that is not listed is malformed
+-- 0 stands for a line that is malformed
 unfoldable pub answerTo : (operation : ℕ) (line buffer : List ℕ) → List Number
 answerTo operation line buffer =
     cond (ofPackets operation) (packets.answerTo operation line buffer)
     (cond (ofServers operation) (servers.answerTo operation line buffer)
-    (cond (ofTimes operation) (times.answerTo operation line)
     (cond (ofLedger operation) (ledger.answerTo operation line)
-    (1 wide line-malformed ∷ []))))
+    (cond (eqb operation 0) (1 wide line-malformed ∷ [])
+    (times.answerTo operation line))))
 
 unfoldable pub bufferAfter : (operation : ℕ) (line buffer : List ℕ) → List ℕ
 bufferAfter operation line buffer =
