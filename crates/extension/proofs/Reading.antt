@@ -2,14 +2,15 @@
 use Prim.Native.Nat.{ℕ, zero, suc, _+_, _-_, _≤_, _<_}
 use native.Mathlib.Omega.{arith}
 use mathlib.Core.Path.{_≡_, refl, sym, ap, _∙_}
-use mathlib.Core.Bool.{Bool, true, false, not, cond, _||_, false≢true, true≢false}
+use mathlib.Core.Bool.{Bool, true, false, cond, _||_, false≢true}
 use mathlib.Core.List.{List, [], _∷_, _++_, append-assoc}
 use mathlib.Core.Logic.{_⊎_, inl, inr, ⊎-elim}
-use borrow.Author.Tests.{eqb-true, ltb-false, le-ltb}
-use lib.Dec.{eqb, ltb}
+use borrow.Author.Tests.{eqb-true}
+use lib.Dec.{eqb}
 use lib.ListN.{length, drop, length-drop}
 use lib.Seq.{getD-drop}
 use Rattle.arithmetic.specs.Octets.{AreOctets}
+use Rattle.ordered_tests.proofs.Reflection.{WhereFalse, negated, both, is-true, is-false, at-least}
 use Rattle.extension.specs.Tail.{headerLength, maximumLength, Field, octetsOf, Legal, Authenticator, of-4, of-20, of-24, Tail, end, authenticator, field, WellFormed, joined}
 use Rattle.extension.specs.Reading.{endsFields, beginsField, statedLength, firstField, Reading, noField, fieldThen, readingUpTo, reading, extensionFields, afterFields, isMalformed}
 use Rattle.extension.specs.TailLaws.{TailLaws}
@@ -95,7 +96,7 @@ unique p q =
     let e = sym (complete p .0) ∙ complete q .0 in
     (ap (λ r. r .fields) e, ap (λ r. r .rest) e)
 
-end-cases : (n : ℕ) → endsFields n ≡ true → (n ≡ 0) ⊎ Authenticator n
+pub end-cases : (n : ℕ) → endsFields n ≡ true → (n ≡ 0) ⊎ Authenticator n
 unfolding endsFields
 end-cases n e = go (eqb n 0) (eqb n 4) (eqb n 20) (eqb n 24) refl refl refl refl e
   where
@@ -106,56 +107,82 @@ end-cases n e = go (eqb n 0) (eqb n 4) (eqb n 20) (eqb n 24) refl refl refl refl
     go false false false true p q r s x = inr (rw (eqb-true n 24 s) of-24)
     go false false false false p q r s x = absurd (false≢true x)
 
+pub ends-short : (n : ℕ) → endsFields n ≡ true → n < 28
+ends-short n e = ⊎-elim (λ z. omega arith) authenticator-short (end-cases n e)
+
 end-tail : (t : List ℕ) → endsFields (length t) ≡ true → Tail t [] t
 end-tail [] e = end
 end-tail (x ∷ t) e = ⊎-elim (λ z. absurd (omega arith)) authenticator (end-cases (suc (length t)) e)
 
-no-field : (t : List ℕ) → beginsField t ≡ false → endsFields (length (reading t .rest)) ≡ true → Tail t (reading t .fields) (reading t .rest)
-no-field t f e = let q = reading-none t f in rw q (end-tail t (rw q at e))
+-- What is true of nothing and of an authenticator, and, where a field begins, follows of all octets from those behind it, is true of every tail.
+module _ (P : List ℕ → Type 0) (ends : (t : List ℕ) → endsFields (length t) ≡ true → P t)
+    (begins : (t : List ℕ) → beginsField t ≡ true → P (drop (statedLength t) t) → P t) where
+  no-field : (t : List ℕ) → beginsField t ≡ false → endsFields (length (reading t .rest)) ≡ true → P t
+  no-field t f e = ends t (rw (reading-none t f) at e)
 
-sound-up : (n : ℕ) (t : List ℕ) → length t ≤ n → AreOctets t → endsFields (length (reading t .rest)) ≡ true → Tail t (reading t .fields) (reading t .rest)
-sound-up zero t h known e = no-field t (no-room (length t) (statedLength t) (omega arith)) e
-sound-up (suc n) t h known e =
-    go (beginsField t) refl (λ p q. sound-up n (drop (statedLength t) t) p (λ i. rw getD-drop (known (statedLength t + i))) q)
-  where
-    rest : List ℕ
-    rest = drop (statedLength t) t
+  up-to : (n : ℕ) (t : List ℕ) → length t ≤ n → endsFields (length (reading t .rest)) ≡ true → P t
+  up-to zero t h e = no-field t (no-room (length t) (statedLength t) (omega arith)) e
+  up-to (suc n) t h e = go (beginsField t) refl (up-to n (drop (statedLength t) t))
+    where
+      rest : List ℕ
+      rest = drop (statedLength t) t
 
-    go : (b : Bool) → beginsField t ≡ b → (length rest ≤ n → endsFields (length (reading rest .rest)) ≡ true → Tail rest (reading rest .fields) (reading rest .rest))
-        → Tail t (reading t .fields) (reading t .rest)
-    go true f again =
-        let q = reading-field t f in
-        let l = is-length (length t) (statedLength t) f in
-        rw q (field (l .room) (legal-here t known f) (front-here t known f) (again (rw length-drop (omega arith)) (rw q at e)))
-    go false f again = no-field t f e
+      go : (b : Bool) → beginsField t ≡ b → (length rest ≤ n → endsFields (length (reading rest .rest)) ≡ true → P rest) → P t
+      go true f again =
+          let l = is-length (length t) (statedLength t) f in
+          begins t f (again (rw length-drop (omega arith)) (rw (reading-field t f) at e))
+      go false f again = no-field t f e
+
+  pub by-fields : (t : List ℕ) → endsFields (length (reading t .rest)) ≡ true → P t
+  by-fields t = up-to (length t) t (omega arith)
 
 sound : (t : List ℕ) → AreOctets t → endsFields (length (reading t .rest)) ≡ true → Tail t (reading t .fields) (reading t .rest)
-sound t = sound-up (length t) t (omega arith)
+sound t known e =
+    by-fields (λ t. AreOctets t → Tail t (reading t .fields) (reading t .rest))
+    (λ t e known. rw (reading-none t (no-room (length t) (statedLength t) (ends-short (length t) e))) (end-tail t e))
+    (λ t f again known.
+    let l = is-length (length t) (statedLength t) f in
+    rw (reading-field t f) (field (l .room) (legal-here t known f) (front-here t known f) (again (λ i. rw getD-drop (known (statedLength t + i))))))
+    t e known
 
 -- ---- refusal 7
 
-by-tests : (s l r : Bool) → s || l || not r ≡ false → (s ≡ false) × ((l ≡ false) × (r ≡ true))
-by-tests false false true e = (refl, (refl, refl))
-by-tests false false false e = absurd (true≢false e)
-by-tests false true r e = absurd (true≢false e)
-by-tests true l r e = absurd (true≢false e)
+pub record Taken (packet : List ℕ) : Type 0 where
+  pub at-least-48 : headerLength ≤ length packet
+  pub at-most-1024 : length packet ≤ maximumLength
+  pub ends : endsFields (length (afterFields packet)) ≡ true
+
+-- 7 is given exactly where not
+pub taken : (packet : List ℕ) → WhereFalse (Taken packet) (isMalformed packet)
+unfolding isMalformed
+taken p =
+    let three = both (both (at-least (length p) headerLength) (at-least maximumLength (length p))) (negated (is-true (endsFields (length (afterFields p))))) in
+    record {
+      to = λ k. three .to ((k .at-least-48, k .at-most-1024), k .ends);
+      from = λ t. let ((a, b), c) = three .from t in record { at-least-48 = a; at-most-1024 = b; ends = c };
+    }
+
+pub taken-false : (packet : List ℕ) → isMalformed packet ≡ false → Taken packet
+taken-false p e = taken p .from (is-false (isMalformed p) .to e)
 
 not-refused : (packet : List ℕ) → AreOctets packet → isMalformed packet ≡ false → WellFormed packet (extensionFields packet) (afterFields packet)
-unfolding isMalformed
 not-refused p known e =
-    let b = by-tests (ltb (length p) headerLength) (ltb maximumLength (length p)) (endsFields (length (afterFields p))) e in
-    record { at-least-48 = ltb-false _ _ (b .0); at-most-1024 = ltb-false _ _ (b .1 .0); tail = sound (drop headerLength p) (λ i. rw getD-drop (known (headerLength + i))) (b .1 .1) }
+    let k = taken-false p e in
+    record { at-least-48 = k .at-least-48; at-most-1024 = k .at-most-1024; tail = sound (drop headerLength p) (λ i. rw getD-drop (known (headerLength + i))) (k .ends) }
 
 well-formed : {packet a : List ℕ} {fs : List Field} → WellFormed packet fs a → isMalformed packet ≡ false
-unfolding isMalformed
 well-formed {packet} w =
     let c = complete (w .tail) in
-    rw (le-ltb (length packet) headerLength (w .at-least-48), le-ltb maximumLength (length packet) (w .at-most-1024), ap (λ r. length (r .rest)) (c .0), c .1)
+    is-false (isMalformed packet) .from (taken packet .to (record { at-least-48 = w .at-least-48; at-most-1024 = w .at-most-1024; ends = rw (ap (λ r. length (r .rest)) (c .0)) (c .1) }))
 
 without-fields : (packet : List ℕ) → headerLength ≤ length packet → endsFields (length packet - headerLength) ≡ true → isMalformed packet ≡ false
 without-fields packet h e =
-    let l = ⊎-elim {C = length packet - headerLength < 28} (λ z. omega arith) authenticator-short (end-cases (length packet - headerLength) e) in
+    let l = ends-short (length packet - headerLength) e in
     well-formed {fs = []} (record { at-least-48 = h; at-most-1024 = omega arith; tail = end-tail (drop headerLength packet) (rw length-drop e) })
+
+pub of-48 : (packet : List ℕ) → length packet ≡ headerLength → isMalformed packet ≡ false
+unfolding endsFields
+of-48 packet e = without-fields packet (omega arith) (rw e)
 
 pub tail-laws : TailLaws
 tail-laws = record { sound = sound; complete = complete; unique = unique; whole = whole; not-refused = not-refused; well-formed = well-formed; without-fields = without-fields }

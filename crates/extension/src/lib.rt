@@ -80,10 +80,13 @@ pub fn octets_after_fields(packet: &[u8]) -> usize
     octets_from(packet.len(), at)
 }
 
-// Refusal 7: the packet is shorter than 48 octets, longer than 1024, or its tail breaks the rules.
+// Refusal 7: the packet is shorter than 48 octets, longer than 1024, or its tail breaks the rules. Most packets have no tail: they are taken at once.
 pub fn is_malformed(packet: &[u8]) -> bool
     ensures { λ r. ⌜ r ≡ isMalformed (now (packet .entry)) ⌝ }
 {
+    if packet.len() == HEADER_LENGTH {
+        return false;
+    }
     if packet.len() < HEADER_LENGTH {
         return true;
     }

@@ -13,10 +13,11 @@ use Rattle.arithmetic.specs.Octets.{bigEndian, octets, AreOctets}
 use Rattle.arithmetic.proofs.Octets.{length-octets, octets-bigEndian}
 use Rattle.refusals.specs.Numbers.{packet-length-wrong}
 use Rattle.ordered_tests.specs.Tests.{_if_else_, otherwise, answer}
+use Rattle.extension.specs.Reading.{isMalformed}
 use Rattle.packet.specs.declared.Fields.{Fields}
 use Rattle.packet.specs.declared.FieldsAnswer.{FieldsAnswer}
 use Rattle.packet.specs.declared.WriteAnswer.{WriteAnswer}
-use Rattle.packet.specs.Packet.{fieldsOf, octetsOf, wrongLength, readAnswer, fieldTooLarge, writeAnswer, written}
+use Rattle.packet.specs.Packet.{fieldsOf, octetsOf, readAnswer, fieldTooLarge, writeAnswer, written}
 
 pub length-octetsOf : (f : Fields) → length (octetsOf f) ≡ 48
 unfolding octetsOf
@@ -60,15 +61,15 @@ module _ (b : List ℕ) (f : Fields) (long : 48 ≤ length b) (small : fieldTooL
 
 -- ---- what the answer of reading tells of the packet
 
-by-length : (wrong : Bool) (f : Fields) (P : Bool → FieldsAnswer → Type 0) → P true (FieldsAnswer.Refused packet-length-wrong) → P false (FieldsAnswer.Fields f)
-    → P wrong (answer FieldsAnswer.Refused (packet-length-wrong if wrong else otherwise (FieldsAnswer.Fields f)))
-by-length true f P x y = x
-by-length false f P x y = y
+by-test : (malformed : Bool) (f : Fields) (P : Bool → FieldsAnswer → Type 0) → P true (FieldsAnswer.Refused packet-length-wrong) → P false (FieldsAnswer.Fields f)
+    → P malformed (answer FieldsAnswer.Refused (packet-length-wrong if malformed else otherwise (FieldsAnswer.Fields f)))
+by-test true f P x y = x
+by-test false f P x y = y
 
-pub read-refused : (p : List ℕ) {n : ℕ} → readAnswer p ≡ FieldsAnswer.Refused n → (wrongLength p ≡ true) × (packet-length-wrong ≡ n)
+pub read-refused : (p : List ℕ) {n : ℕ} → readAnswer p ≡ FieldsAnswer.Refused n → (isMalformed p ≡ true) × (packet-length-wrong ≡ n)
 read-refused p {n} =
-    by-length (wrongLength p) (fieldsOf p) (λ b a. a ≡ FieldsAnswer.Refused n → (b ≡ true) × (packet-length-wrong ≡ n)) (λ e. (refl, (cc))) (λ e. ((cc), (cc)))
+    by-test (isMalformed p) (fieldsOf p) (λ b a. a ≡ FieldsAnswer.Refused n → (b ≡ true) × (packet-length-wrong ≡ n)) (λ e. (refl, (cc))) (λ e. ((cc), (cc)))
 
-pub read-fields : (p : List ℕ) {f : Fields} → readAnswer p ≡ FieldsAnswer.Fields f → (wrongLength p ≡ false) × (fieldsOf p ≡ f)
+pub read-fields : (p : List ℕ) {f : Fields} → readAnswer p ≡ FieldsAnswer.Fields f → (isMalformed p ≡ false) × (fieldsOf p ≡ f)
 read-fields p {f} =
-    by-length (wrongLength p) (fieldsOf p) (λ b a. a ≡ FieldsAnswer.Fields f → (b ≡ false) × (fieldsOf p ≡ f)) (λ e. ((cc), (cc))) (λ e. (refl, (cc)))
+    by-test (isMalformed p) (fieldsOf p) (λ b a. a ≡ FieldsAnswer.Fields f → (b ≡ false) × (fieldsOf p ≡ f)) (λ e. ((cc), (cc))) (λ e. (refl, (cc)))

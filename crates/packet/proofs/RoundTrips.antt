@@ -3,10 +3,10 @@ use Prim.Native.Nat.{ℕ, zero, suc, _+_, _*_, _/_, _%_, _^_, _≤_, _<_}
 use native.Mathlib.Nat.{mod-eq-of-lt}
 use native.Mathlib.Omega.{arith}
 use mathlib.Core.Path.{_≡_, refl, sym, ap, _∙_}
-use mathlib.Core.Bool.{Bool, true, false, _||_}
+use mathlib.Core.Bool.{Bool, true, false}
 use mathlib.Core.List.{List, [], _∷_, _++_}
-use borrow.Author.Tests.{le-ltb, ltb-false, eqb-true}
-use lib.Dec.{ltb, eqb}
+use borrow.Author.Tests.{le-ltb, ltb-false}
+use lib.Dec.{ltb}
 use lib.IntN.{ℤ}
 use lib.ListN.{length, take, drop, length-append, length-drop}
 use lib.Pow.{pow-pos}
@@ -16,11 +16,12 @@ use Rattle.arithmetic.specs.Octets.{bigEndian, octets, part, AreOctets}
 use Rattle.arithmetic.proofs.Modulo.{modulo-below}
 use Rattle.arithmetic.proofs.TwosComplement.{signed-bits, bits-signed}
 use Rattle.arithmetic.proofs.Octets.{bigEndian-octets, octets-number, number-lt, part-add, part-four}
+use Rattle.extension.proofs.Reading.{taken-false, of-48}
 use Rattle.packet.specs.declared.Fields.{Fields}
 use Rattle.packet.specs.declared.FieldsAnswer.{FieldsAnswer}
-use Rattle.packet.specs.Packet.{octet, _from_to_, fieldsOf, octetsOf, wrongLength, readAnswer, fieldTooLarge, written}
+use Rattle.packet.specs.Packet.{octet, _from_to_, fieldsOf, octetsOf, readAnswer, fieldTooLarge, written}
 use Rattle.packet.specs.RoundTrips.{Legal, RoundTrips}
-use Rattle.packet.proofs.Packet.{length-octetsOf, bounded, answer-written, octets-written}
+use Rattle.packet.proofs.Packet.{length-octetsOf, bounded, answer-written, octets-written, read-fields}
 
 either : {C : Type 0} (x : Bool) → (x ≡ true → C) → (x ≡ false → C) → C
 either true f g = f refl
@@ -123,21 +124,6 @@ fieldsOf-take p =
 
 -- ---- the answers
 
--- fields that reading answers are those of 48 octets or more
-fields-read : (p : List ℕ) (f : Fields) → readAnswer p ≡ FieldsAnswer.Fields f → (48 ≤ length p) × (fieldsOf p ≡ f)
-fields-read p f e = either (eqb (length p) 48 || eqb (length p) 68) right wrong
-  where
-    right : eqb (length p) 48 || eqb (length p) 68 ≡ true → (48 ≤ length p) × (fieldsOf p ≡ f)
-    right t =
-        let same = rw t at e in
-        (either (eqb (length p) 48) (λ a. omega (arith, eqb-true)) (λ a. let b = rw a at t in omega (arith, eqb-true)), (cc))
-
-    wrong : eqb (length p) 48 || eqb (length p) 68 ≡ false → (48 ≤ length p) × (fieldsOf p ≡ f)
-    wrong t =
-        let refused = rw t at e in
-        let z : _≡_ {A = ℕ} 0 1 = cc in
-        absurd (omega arith)
-
 -- what writing leaves: the buffer as it was, or the 48 octets and the rest
 by-cases : (b : List ℕ) (f : Fields) (P : List ℕ → Type 0) → P b → (48 ≤ length b → P (octetsOf f ++ drop 48 b)) → P (written b f)
 by-cases b f P old new =
@@ -151,12 +137,12 @@ by-cases b f P old new =
 pub round-trips : RoundTrips
 round-trips = record {
   octets-back = λ p b f h e long.
-      let r = fields-read p f e in
+      let r = read-fields p e in
       let small : fieldTooLarge f ≡ false = ap fieldTooLarge (sym (r .1)) ∙ fieldsOf-small p h in
-      (answer-written b f long small, octets-written b f long small ∙ (rw (← r .1, octetsOf-fieldsOf p (r .0) h)));
+      (answer-written b f long small, octets-written b f long small ∙ (rw (← r .1, octetsOf-fieldsOf p (taken-false p (r .0) .at-least-48) h)));
   fields-back = λ b f k long.
-      (answer-written b f long (k .small), (rw (octets-written b f long (k .small), take-at (octetsOf f) (drop 48 b) 48 (length-octetsOf f), length-octetsOf f, fieldsOf-octetsOf f k)));
-  first-48-read = λ p q l e. (rw (l, ← fieldsOf-take p, e, fieldsOf-take q));
+      (answer-written b f long (k .small), (rw (octets-written b f long (k .small), take-at (octetsOf f) (drop 48 b) 48 (length-octetsOf f), of-48 (octetsOf f) (length-octetsOf f), fieldsOf-octetsOf f k)));
+  first-48-read = λ p q f g d e same. sym (read-fields p d .1) ∙ sym (fieldsOf-take p) ∙ ap fieldsOf same ∙ fieldsOf-take q ∙ read-fields q e .1;
   rest-kept = λ b f. by-cases b f (λ l. drop 48 l ≡ drop 48 b) refl (λ long. drop-at (octetsOf f) (drop 48 b) 48 (length-octetsOf f));
   length-kept = λ b f. by-cases b f (λ l. length l ≡ length b) refl (λ long. rw (length-append, length-octetsOf f, length-drop) (omega arith));
 }

@@ -1,14 +1,16 @@
 -- The fields of a packet, its 48 octets, and what reading and writing give (docs/RULES.md, "The 48 octets" and "Numbers a caller may see").
 use Prim.Native.Nat.{ℕ, suc, _+_, _-_, _*_, _/_, _%_}
-use mathlib.Core.Bool.{Bool, not, _||_}
+use mathlib.Core.Bool.{Bool, _||_}
 use mathlib.Core.List.{List, _∷_, _++_}
 use lib.ListN.{length, drop, getD}
-use lib.Dec.{ltb, eqb}
+use lib.Dec.{ltb}
 use Rattle.arithmetic.specs.TwosComplement.{signed, bits}
 use Rattle.arithmetic.specs.Octets.{bigEndian, octets, part}
 use Rattle.refusals.specs.Numbers.{packet-length-wrong, buffer-too-short, field-too-large}
 use Rattle.ordered_tests.specs.Tests.{Tests, _if_else_, otherwise, answer, kept}
 use Rattle.timestamp.specs.Timestamp.{timestamp}
+use Rattle.extension.specs.Tail.{headerLength}
+use Rattle.extension.specs.Reading.{isMalformed}
 use Rattle.packet.specs.declared.Fields.{Fields}
 use Rattle.packet.specs.declared.FieldsAnswer.{FieldsAnswer}
 use Rattle.packet.specs.declared.WriteAnswer.{WriteAnswer}
@@ -54,12 +56,9 @@ octetsOf f =
     ++ octets 8 (f .receive .0)  -- 32 to 39
     ++ octets 8 (f .transmit .0)  -- 40 to 47
 
--- a packet has 48 octets; an authenticator is 20 more
+-- the octets of a packet that has neither extension fields nor an authenticator
 abbrev pub packetLength : ℕ
-packetLength = 48
-
-abbrev pub authenticatedLength : ℕ
-authenticatedLength = packetLength + 20
+packetLength = headerLength
 
 -- packets that stand one after another: how many there are, and that at place k, counted from 0
 abbrev pub packetCount : List ℕ → ℕ
@@ -68,14 +67,10 @@ packetCount packets = length packets / packetLength
 abbrev pub packetAt : ℕ → List ℕ → List ℕ
 packetAt k packets = part (packetLength * k) packetLength packets
 
--- a packet of neither length
-abbrev pub wrongLength : List ℕ → Bool
-wrongLength packet = not (eqb (length packet) packetLength || eqb (length packet) authenticatedLength)
-
 -- reading refuses by 7 only
 abbrev pub readTests : List ℕ → Tests FieldsAnswer
 readTests packet =
-    packet-length-wrong if wrongLength packet else
+    packet-length-wrong if isMalformed packet else
     otherwise (FieldsAnswer.Fields (fieldsOf packet))
 
 abbrev pub readAnswer : List ℕ → FieldsAnswer

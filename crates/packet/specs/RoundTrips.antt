@@ -32,8 +32,9 @@ pub record RoundTrips : Type 0 where
   -- legal fields that are written are read back the same
   pub fields-back : (b : List ℕ) (f : Fields) → Legal f → packetLength ≤ length b
       → (writeAnswer b f ≡ WriteAnswer.Written) × (readAnswer (take packetLength (written b f)) ≡ FieldsAnswer.Fields f)
-  -- reading depends on the length and the first 48 octets alone: an authenticator is not read
-  pub first-48-read : (p q : List ℕ) → length p ≡ length q → take packetLength p ≡ take packetLength q → readAnswer p ≡ readAnswer q
+  -- the fields of a packet that is not refused depend on its first 48 octets alone: what stands past them is not read
+  pub first-48-read : (p q : List ℕ) (f g : Fields) → readAnswer p ≡ FieldsAnswer.Fields f → readAnswer q ≡ FieldsAnswer.Fields g
+      → take packetLength p ≡ take packetLength q → f ≡ g
   -- writing leaves the octets past the 48th, and the length, as they were
   pub rest-kept : (b : List ℕ) (f : Fields) → drop packetLength (written b f) ≡ drop packetLength b
   pub length-kept : (b : List ℕ) (f : Fields) → length (written b f) ≡ length b

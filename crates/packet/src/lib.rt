@@ -9,10 +9,8 @@ ghost use Rattle.arithmetic.specs.Octets.{octets};
 ghost use Rattle.packet.specs.Packet.{packetLength, fieldsOf, octetsOf, fieldTooLarge, readAnswer, writeAnswer, written};
 use timestamp::Timestamp;
 
-// The octets of a packet, and of one with an authenticator, which is not read.
-pub const LENGTH: usize = 48;
-
-pub const AUTHENTICATED_LENGTH: usize = LENGTH + 20;
+// The octets of a packet that has neither extension fields nor an authenticator.
+pub const LENGTH: usize = extension::HEADER_LENGTH;
 
 // `leap` is LI and `version` VN; root delay and root dispersion have 16 fraction bits.
 pub struct Fields {
@@ -65,14 +63,14 @@ fn read_fields(p: &[u8]) -> Fields
     }
 }
 
-// Reads a packet, with or without an authenticator.
+// Reads the first 48 octets of a packet. Its extension fields and its authenticator are not read.
 pub fn read(packet: &[u8]) -> FieldsAnswer
     ensures { λ r. ⌜ r ≡ readAnswer (now (packet .entry)) ⌝ }
 {
-    if packet.len() == LENGTH || packet.len() == AUTHENTICATED_LENGTH {
-        return FieldsAnswer::Fields(read_fields(packet));
+    if extension::is_malformed(packet) {
+        return FieldsAnswer::Refused(refusals::PACKET_LENGTH_WRONG);
     }
-    FieldsAnswer::Refused(refusals::PACKET_LENGTH_WRONG)
+    FieldsAnswer::Fields(read_fields(packet))
 }
 
 // Stores the octets of four timestamps from index at on.
