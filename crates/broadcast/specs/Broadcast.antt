@@ -8,9 +8,10 @@ use Rattle.refusals.specs.Numbers.{buffer-too-short, request-version-unsupporte
 use Rattle.ordered_tests.specs.Tests.{Tests, _if_else_, otherwise, answer, kept, between}
 use Rattle.timestamp.specs.declared.Timestamp.{Timestamp}
 use Rattle.timestamp.specs.Timestamp.{constants, isZero, _since_, noOrder}
+use Rattle.extension.specs.Reading.{isMalformed}
 use Rattle.packet.specs.declared.Fields.{Fields}
 use Rattle.packet.specs.declared.WriteAnswer.{WriteAnswer}
-use Rattle.packet.specs.Packet.{packetLength, fieldsOf, octetsOf, wrongLength}
+use Rattle.packet.specs.Packet.{packetLength, fieldsOf, octetsOf}
 use Rattle.server_packet.specs.declared.Settings.{Settings}
 use Rattle.server_packet.specs.declared.Message.{Message}
 use Rattle.server_packet.specs.Packet.{outOfRange, packetFields}
@@ -62,7 +63,7 @@ fieldTests f t4 =
 
 abbrev pub arrivalTests : List ℕ → Timestamp → Tests BroadcastAnswer
 arrivalTests packet t4 =
-    packet-length-wrong if wrongLength packet else
+    packet-length-wrong if isMalformed packet else
     fieldTests (fieldsOf packet) t4
 
 unfoldable pub broadcastArrived : List ℕ → Timestamp → BroadcastAnswer

@@ -9,8 +9,9 @@ use Rattle.timestamp.specs.declared.Timestamp.{Timestamp}
 use Rattle.timestamp.specs.Timestamp.{_since_}
 use Rattle.offset.specs.declared.OffsetAnswer.{OffsetAnswer}
 use Rattle.offset.specs.Offset.{offsetTests}
+use Rattle.extension.specs.Reading.{isMalformed}
 use Rattle.packet.specs.declared.Fields.{Fields}
-use Rattle.packet.specs.Packet.{wrongLength, fieldsOf}
+use Rattle.packet.specs.Packet.{fieldsOf}
 use Rattle.kiss.specs.Kiss.{rowOf}
 use Rattle.token.specs.declared.Token.{Token}
 use Rattle.sanity.specs.Sanity.{headerTests, rootTests}
@@ -49,7 +50,7 @@ waitingTests waiting t1 token version f t4 =
 
 abbrev pub packetTests : Bool → Timestamp → Token → ℕ → List ℕ → Timestamp → Tests ArrivalAnswer
 packetTests waiting t1 token version packet t4 =
-    packet-length-wrong if wrongLength packet else
+    packet-length-wrong if isMalformed packet else
     waitingTests waiting t1 token version (fieldsOf packet) t4
 
 unfoldable pub checkedPacket : Bool → Timestamp → Token → ℕ → List ℕ → Timestamp → ArrivalAnswer

@@ -8,15 +8,16 @@ use Rattle.refusals.specs.Numbers.{buffer-too-short, packet-length-wrong, reque
 use Rattle.ordered_tests.specs.Tests.{Tests, _if_else_, otherwise, answer, kept, between}
 use Rattle.timestamp.specs.declared.Timestamp.{Timestamp}
 use Rattle.timestamp.specs.Timestamp.{isZero, _since_, noOrder, negative}
+use Rattle.extension.specs.Reading.{isMalformed}
 use Rattle.packet.specs.declared.Fields.{Fields}
-use Rattle.packet.specs.Packet.{packetLength, fieldsOf, octetsOf, tooShort, wrongLength}
+use Rattle.packet.specs.Packet.{packetLength, fieldsOf, octetsOf, tooShort}
 use Rattle.server_packet.specs.declared.Settings.{Settings}
 use Rattle.server_packet.specs.declared.Message.{Message}
 use Rattle.server_packet.specs.Packet.{outOfRange, packetFields}
 use Rattle.server.specs.declared.ReplyAnswer.{ReplyAnswer}
 use Rattle.server.specs.declared.ReplyAnswer.the-variants.{Refused, Written}
 
--- the tests in order: those of a request with these fields, and before them those of its length and of the buffer
+-- the tests in order: those of a request with these fields, and before them those of its length and tail and of the buffer
 unfoldable pub requestTests : Settings → Fields → (t2 t3 : Timestamp) → Tests ReplyAnswer
 requestTests s request t2 t3 =
     request-mode-wrong if not (eqb (request .mode) 3) else
@@ -30,7 +31,7 @@ requestTests s request t2 t3 =
 unfoldable pub replyTests : Settings → List ℕ → (t2 t3 : Timestamp) → List ℕ → Tests ReplyAnswer
 replyTests s request t2 t3 buffer =
     buffer-too-short if tooShort buffer else
-    packet-length-wrong if wrongLength request else
+    packet-length-wrong if isMalformed request else
     requestTests s (fieldsOf request) t2 t3
 
 -- the reply has mode 4, copies VN and poll, and has the request's transmit timestamp as originate
