@@ -103,7 +103,7 @@ part-take (suc at) n zero p h = absurd (omega arith)
 part-take (suc at) n (suc m) [] h = refl
 part-take (suc at) n (suc m) (x ∷ p) h = part-take at n m p (omega arith)
 
-fieldsOf-take : (p : List ℕ) → fieldsOf (take 48 p) ≡ fieldsOf p
+pub fieldsOf-take : (p : List ℕ) → fieldsOf (take 48 p) ≡ fieldsOf p
 unfolding fieldsOf
 fieldsOf-take p =
     let one : (i : ℕ) → i < 48 → octet i (take 48 p) ≡ octet i p = λ i k. getD-take 48 p i 0 k in

@@ -6,7 +6,7 @@ use mathlib.Core.Bool.{Bool, true, false, cond, _||_}
 use mathlib.Core.List.{List, [], _∷_, _++_, append-nil}
 use borrow.Author.Tests.{leb-false, le-leb, lt-leb}
 use lib.Dec.{eqb, leb}
-use lib.ListN.{length, set, replicate, length-set}
+use lib.ListN.{length, set, replicate, length-set, length-replicate}
 use Rattle.client.specs.declared.Client.{Client}
 use Rattle.client.specs.Record.{fresh}
 use Rattle.hex_decode.specs.declared.Line.{Line}
@@ -14,7 +14,7 @@ use Rattle.hex_decode.specs.Lines.{digitOf, start, pushedBuffer, hasBegun}
 use Rattle.hex_decode.specs.Decoding.{Frame, octets, malformed, decode, atMost, Held, next, after}
 use Rattle.hex_encode.specs.Text.{text}
 use Rattle.hex_decode.proofs.Decoding.{decoding}
-use Rattle.frames.specs.Frames.{callOf, answered, answeredFrame}
+use Rattle.frames.specs.Frames.{longestFrame, callOf, answered, answeredFrame}
 use Rattle.replay_lines.specs.declared.Replay.{Replay}
 use Rattle.replay_lines.specs.Replay as all
 use Rattle.replay_lines.specs.Replay.{lines, answers, replay}
@@ -45,15 +45,15 @@ after-length : (h : Held) (cs : List ℕ) → length (after h cs .buffer) ≡ le
 after-length h [] = refl
 after-length h (c ∷ cs) = after-length (next h c) cs ∙ pushed-length (h .line) (h .buffer) c
 
--- a frame of more than 85 octets is malformed anyway
-too-long : (c : Client) (f : Frame) → answeredFrame c (atMost 85 f) ≡ answeredFrame c f
+-- a frame of more octets than the longest is malformed anyway
+too-long : (c : Client) (f : Frame) → answeredFrame c (atMost longestFrame f) ≡ answeredFrame c f
 unfolding callOf
 too-long c malformed = refl
-too-long c (octets xs) = go (leb (length xs) 85) refl
+too-long c (octets xs) = go (leb (length xs) longestFrame) refl
   where
-    go : (t : Bool) → leb (length xs) 85 ≡ t → answeredFrame c (cond t (octets xs) malformed) ≡ answered c (callOf xs)
+    go : (t : Bool) → leb (length xs) longestFrame ≡ t → answeredFrame c (cond t (octets xs) malformed) ≡ answered c (callOf xs)
     go true e = refl
-    go false e = let h = leb-false (length xs) 85 e in rw (le-leb 25 (length xs) (omega arith), lt-leb (length xs) 25 (omega arith), le-leb 17 (length xs) (omega arith), lt-leb (length xs) 17 (omega arith), e)
+    go false e = let h = leb-false (length xs) longestFrame e in rw (le-leb 25 (length xs) (omega arith), lt-leb (length xs) 25 (omega arith), le-leb 17 (length xs) (omega arith), lt-leb (length xs) 17 (omega arith), e)
 
 -- a line and its buffer after the characters since the last line feed, and a replay with such a line
 abbrev held : List ℕ → List ℕ → Held
@@ -63,12 +63,12 @@ abbrev at : Client → Held → Replay
 at c h = record { client = c; line = h .line; octets = h .buffer }
 
 -- that line is answered as those characters are
-same : (c : Client) (b cs : List ℕ) → length b ≡ 85 → reply (at c (held b cs)) ≡ all.reply c cs
+same : (c : Client) (b cs : List ℕ) → length b ≡ longestFrame → reply (at c (held b cs)) ≡ all.reply c cs
 same c b cs fits = ap (answeredFrame c) (decoding .reads b cs ∙ ap (λ n. atMost n (decode cs)) fits) ∙ too-long c (decode cs)
 
 -- and so are all lines of an input that goes on from there
 abbrev Same : List ℕ → Type 0
-Same input = (c : Client) (b cs : List ℕ) → length b ≡ 85 → allAnswers (at c (held b cs)) input ≡ answers c (lines cs input)
+Same input = (c : Client) (b cs : List ℕ) → length b ≡ longestFrame → allAnswers (at c (held b cs)) input ≡ answers c (lines cs input)
 
 same-all : (input : List ℕ) → Same input
 unfolding lines answers
@@ -87,4 +87,4 @@ same-all (x ∷ input) c b cs fits = go (eqb x 10) refl (same-all input)
 
 -- from the beginning no character has come yet
 pub replayed : (input : List ℕ) → allAnswers begin input ≡ replay input
-replayed input = same-all input fresh (replicate 85 0) [] refl
+replayed input = same-all input fresh (replicate longestFrame 0) [] (length-replicate {A = ℕ} longestFrame 0)
