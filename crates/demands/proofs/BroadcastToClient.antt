@@ -24,6 +24,7 @@ use Rattle.demands.specs.Reply.{LegallySet}
 use Rattle.demands.specs.Broadcast.{Broadcast, broadcastFields}
 use Rattle.demands.specs.Behaviour.{client, broadcast, form, ours}
 use Rattle.demands.specs.BroadcastToClient.{theCall, RefusesBroadcast, ClientRefusesBroadcast}
+use Rattle.demands.proofs.Facts.{of-48}
 use Rattle.demands.proofs.Form.{facts, done-so, does-it, acceptance-shown}
 use Rattle.demands.proofs.Client.{client-meets}
 use Rattle.demands.proofs.Broadcast.{broadcast-meets}
@@ -64,7 +65,7 @@ module _ (x : Broadcast) (w : ours .does broadcast x .answer ≡ WriteAnswer.Wri
 
 module _ (c : Client) (x : Broadcast) (t4 : Timestamp) (alternate : Bool) (l : Legal c) (t : x .t3 .0 < 2 ^ 64) (w : ours .does broadcast x .answer ≡ WriteAnswer.Written) where
   is-packet : IsPacket (take 48 (ours .does broadcast x .octets))
-  is-packet = inl (ap length (packet-is x w) ∙ length-octetsOf (broadcastFields x))
+  is-packet = of-48 (take 48 (ours .does broadcast x .octets)) (ap length (packet-is x w) ∙ length-octetsOf (broadcastFields x))
 
   originate : fieldsOf (take 48 (ours .does broadcast x .octets)) .originate ≡ notAvailable
   unfolding packetFields

@@ -1,11 +1,12 @@
 -- Every call meets its form.
-use Rattle.demands.specs.Behaviour.{Operation, client, association, reply, broadcast, broadcastArrival, measure, read, write, date, timestamp, precision, entry, tick, line, form, ours}
+use Rattle.demands.specs.Behaviour.{Operation, client, association, reply, broadcast, broadcastArrival, measure, read, write, begin, next, body, add, date, timestamp, precision, entry, tick, line, form, ours}
 use Rattle.demands.proofs.Form.{Meets}
 use Rattle.demands.proofs.Client.{client-meets}
 use Rattle.demands.proofs.Reply.{reply-meets}
 use Rattle.demands.proofs.Broadcast.{broadcast-meets, broadcast-arrival-meets}
 use Rattle.demands.proofs.Measure.{measure-meets}
 use Rattle.demands.proofs.Packet.{read-meets, write-meets}
+use Rattle.demands.proofs.Extension.{begin-meets, next-meets, body-meets, add-meets}
 use Rattle.demands.proofs.Calendar.{date-meets, timestamp-meets}
 use Rattle.demands.proofs.Precision.{precision-meets}
 use Rattle.demands.proofs.Ledger.{entry-meets, tick-meets}
@@ -21,6 +22,10 @@ each broadcastArrival = broadcast-arrival-meets
 each measure = measure-meets
 each read = read-meets
 each write = write-meets
+each begin = begin-meets
+each next = next-meets
+each body = body-meets
+each add = add-meets
 each date = date-meets
 each timestamp = timestamp-meets
 each precision = precision-meets

@@ -1,7 +1,7 @@
 -- The broadcast packet of our writer is accepted, and what its client answers is the true difference less the time on the way.
 use Prim.Native.Nat.{ℕ, _^_, _≤_, _<_}
 use mathlib.Core.Path.{_≡_, refl, sym, ap, subst, _∙_}
-use mathlib.Core.Logic.{_≢_, inl}
+use mathlib.Core.Logic.{_≢_}
 use mathlib.Core.Bool.{Bool, not}
 use mathlib.Core.List.{List, [], _∷_, _++_}
 use native.Mathlib.Omega.{arith}
@@ -27,6 +27,7 @@ use Rattle.demands.specs.Broadcast.{Broadcast, broadcastFields}
 use Rattle.demands.specs.Behaviour.{broadcast, broadcastArrival, ours}
 use Rattle.clocks.specs.Exchange.{longestTrip, reading}
 use Rattle.demands.specs.OneWay.{broadcastClocksApart, OneWay, T3, T4, trueDifference, travelled, Orderly, Run, theWrite, theArrival, Premises, Conclusions, BroadcastDifference, across, slowest, fastest, runOf, OneWayWitnesses}
+use Rattle.demands.proofs.Facts.{of-48}
 use Rattle.demands.proofs.Form.{done-so}
 use Rattle.demands.proofs.Broadcast.{broadcast-meets, broadcast-arrival-meets}
 use Rattle.demands.proofs.Served.{typed, front, packet-fields}
@@ -104,7 +105,7 @@ module _ (r : Run) (p : Premises ours r) where
   arrival-is =
       (λ i. ours .does broadcastArrival (record { packet = packet-is i; t4 = T4 (r .way) }))
       ∙ done-so broadcast-arrival-meets (record { packet = octetsOf said; t4 = T4 (r .way) }) (BroadcastAnswer.Difference (fieldsOf (octetsOf said) .transmit since T4 (r .way)))
-      (inl (length-octetsOf said), (ap (λ f. f .mode) of-packet, (version-in, (leap-not, (stratum-in, (transmit-not, (p .orderly .nonzero .1, (in-order, refl))))))))
+      (of-48 (octetsOf said) (length-octetsOf said), (ap (λ f. f .mode) of-packet, (version-in, (leap-not, (stratum-in, (transmit-not, (p .orderly .nonzero .1, (in-order, refl))))))))
       ∙ ap (λ f. BroadcastAnswer.Difference (f .transmit since T4 (r .way))) of-packet
     where
       version-in : (1 ≤ fieldsOf (octetsOf said) .version) × (fieldsOf (octetsOf said) .version ≤ 4)

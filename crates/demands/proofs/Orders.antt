@@ -1,6 +1,7 @@
 -- The orders are those of the rules, by computation.
 use mathlib.Core.Path.{refl}
 use Rattle.offset.specs.Offset.{offsetTests}
+use Rattle.extension_writer.specs.Writer.{addTests}
 use Rattle.client.specs.Ask.{askTests}
 use Rattle.reply_checks.specs.Checks.{waitingTests, checkTests}
 use Rattle.client.specs.GiveUp.{giveUpTests}
@@ -10,7 +11,7 @@ use Rattle.ledger.specs.Ledger.{entryTests, tickTests}
 use Rattle.demands.specs.Orders.{Orders}
 
 pub orders : Orders
-unfolding broadcasts.writeTests broadcasts.fieldTests askTests waitingTests checkTests offsetTests giveUpTests server.replyTests server.requestTests entryTests tickTests
+unfolding addTests broadcasts.writeTests broadcasts.fieldTests askTests waitingTests checkTests offsetTests giveUpTests server.replyTests server.requestTests entryTests tickTests
 orders = record {
   ask = λ c x. record { in-table = refl; in-rules = refl };
   arrival = λ c x. record { in-table = refl; in-rules = refl };
@@ -24,6 +25,9 @@ orders = record {
   four = λ x. record { in-table = refl; in-rules = refl };
   reading = λ p. record { in-table = refl; in-rules = refl };
   writing = λ x. record { in-table = refl; in-rules = refl };
+  beginning = λ p. record { in-table = refl; in-rules = refl };
+  stepping = λ x. record { in-table = refl; in-rules = refl };
+  adding = λ x. record { in-table = refl; in-rules = refl };
   date = λ t. record { in-table = refl; in-rules = refl };
   timestamp = λ d. record { in-table = refl; in-rules = refl };
   precisions = λ n. record { in-table = refl; in-rules = refl };

@@ -1,6 +1,6 @@
 -- An ask, our server's reply to the 48 octets that it wrote, and what the record that waits for it finds in that reply.
 use mathlib.Core.Path.{_≡_, refl, sym, ap, subst, _∙_}
-use mathlib.Core.Logic.{_≢_, inl, inr}
+use mathlib.Core.Logic.{_≢_, inr}
 use mathlib.Core.Bool.{Bool, true}
 use mathlib.Core.List.{List, _++_}
 use Prim.Native.Nat.{ℕ, _%_, _^_, _≤_, _<_}
@@ -41,6 +41,7 @@ use Rattle.demands.specs.Ask.{requestSent}
 use Rattle.demands.specs.Arrival.{matchRules}
 use Rattle.demands.specs.Reply.{Request, LegallySet, written}
 use Rattle.demands.specs.Behaviour.{client, reply, form, ours}
+use Rattle.demands.proofs.Facts.{of-48}
 use Rattle.demands.proofs.Form.{facts, done-so}
 use Rattle.demands.proofs.Legal.{waiting-legal}
 use Rattle.demands.proofs.Client.{client-meets}
@@ -140,7 +141,7 @@ packet-fields s set m leap stratum identifier reference receive transmit version
 -- ---- the request's fields
 
 request-packet : (version : ℕ) (token : Token) → IsPacket (request version token)
-request-packet version token = inl (ap length (sym (request-octets version token)) ∙ length-octetsOf (requestFields version token))
+request-packet version token = of-48 (request version token) (ap length (sym (request-octets version token)) ∙ length-octetsOf (requestFields version token))
 
 module _ (version : ℕ) (token : Token) (small : version ≤ 4) (fits : token .0 < 2 ^ 64) where
   request-legal : round-trips.Legal (requestFields version token)
@@ -236,7 +237,7 @@ module _ {c : Client} {x : calls.Ask} {s : Settings} {t2 t3 : Timestamp} {buffer
   matched said t4 alternate rest g e originate mode version given = inr (
     waiting-legal c (x .version) (x .clock) (x .token) (x .uptime) (r .asked .legal) (r .asked .version) (r .asked .clock) (r .asked .token),
     inr (
-      inl (length-octetsOf said),
+      of-48 (octetsOf said) (length-octetsOf said),
       inr (
         refl,
         inr (

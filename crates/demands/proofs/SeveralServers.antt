@@ -12,6 +12,7 @@ use lib.Seq.{getD-set-same, getD-set-other}
 use Rattle.client.specs.declared.Client.{Client}
 use Rattle.client.specs.declared.Phase.the-variants.{Stopped}
 use Rattle.arithmetic.specs.Octets.{octets}
+use Rattle.extension.specs.Reading.{endsFields, reading, isMalformed}
 use Rattle.packet.specs.Packet.{fieldsOf}
 use Rattle.kiss.specs.Kiss.{rowOf}
 use Rattle.poll.specs.Poll.{tooSoon}
@@ -161,5 +162,5 @@ use-runs s (x ∷ xs) runs = use-runs (left ours (does ours s x)) xs (use-kept s
 -- ---- the worked case
 
 pub worked : Worked
-unfolding outside anyIllegal firstRunning askedFor listAfterAsk arrivedFor listAfterArrival arrived arrivalAnswer waitingTests checkTests fieldsOf octets rowOf illegal askTests afterAsk tooSoon
+unfolding outside anyIllegal firstRunning askedFor listAfterAsk arrivedFor listAfterArrival arrived arrivalAnswer waitingTests checkTests isMalformed reading endsFields fieldsOf octets rowOf illegal askTests afterAsk tooSoon
 worked = record { moved = refl; backed-off = refl }

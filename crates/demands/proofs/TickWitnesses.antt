@@ -8,6 +8,7 @@ use Rattle.arithmetic.specs.Octets.{octets}
 use Rattle.arithmetic.specs.TwosComplement.{signed, bits, difference}
 use Rattle.timestamp.specs.Timestamp.{_since_, noOrder}
 use Rattle.offset.specs.Offset.{floorHalf, halfOf, offsetTests}
+use Rattle.extension.specs.Reading as tails
 use Rattle.packet.specs.Packet.{fieldsOf, octetsOf}
 use Rattle.poll.specs.Poll.{tooSoon}
 use Rattle.reply_checks.specs.Checks.{waitingTests, checkTests}
@@ -35,7 +36,7 @@ met : (i j : ℕ) (e : Exchange) → form client .shown (theAsk ours (readings (
 met i j e asked passed = record { orderly = ticking-orderly i j e passed; calls = call-premises ours (readings (2 ^ i) (2 ^ j) e) e asked }
 
 pub tick-witnesses : TickWitnesses
-unfolding reading cutDown arrived arrivalAnswer waitingTests checkTests offsetTests _since_ difference signed _modulo_ noOrder floorHalf halfOf fieldsOf octetsOf octets request illegal askTests afterAsk afterAskBuffer replied repliedBuffer replyTests requestTests outOfRange packetFields tooSoon gaveUp giveUpTests bits
+unfolding reading cutDown arrived arrivalAnswer waitingTests checkTests offsetTests _since_ difference signed _modulo_ noOrder floorHalf halfOf tails.isMalformed tails.reading tails.endsFields fieldsOf octetsOf octets request illegal askTests afterAsk afterAskBuffer replied repliedBuffer replyTests requestTests outOfRange packetFields tooSoon gaveUp giveUpTests bits
 tick-witnesses = record {
   by-18 = record { met = met 0 1 shortTrip (acceptance-shown .0) tt; read = refl; told = refl };
   by-18-delay = refl;

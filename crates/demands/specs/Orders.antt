@@ -3,11 +3,13 @@
 use Prim.Native.Nat.{ℕ}
 use mathlib.Core.Path.{_≡_}
 use mathlib.Core.List.{List, [], _∷_, _++_}
-use lib.ListN.{length}
+use lib.ListN.{length, drop}
 use Rattle.ordered_tests.specs.Tests.{Tests, _if_else_, _when_else_, otherwise}
 use Rattle.timestamp.specs.declared.Timestamp.{Timestamp}
 use Rattle.timestamp.specs.Timestamp.{_since_}
 use Rattle.offset.specs.Offset.{offsetTests}
+use Rattle.extension.specs.Reader.{beginTests, nextTests}
+use Rattle.extension_writer.specs.Writer.{addTests}
 use Rattle.packet.specs.Packet.{readTests, writeTests}
 use Rattle.calendar.specs.declared.Date.{Date}
 use Rattle.calendar.specs.Calendar.{dateTests, timestampTests}
@@ -29,6 +31,9 @@ use Rattle.demands.specs.Associations as associations
 use Rattle.demands.specs.Measure.{Four, P, Q, measure}
 use Rattle.demands.specs.Read.{read}
 use Rattle.demands.specs.Write.{Fill, write}
+use Rattle.demands.specs.Begin.{begin}
+use Rattle.demands.specs.Next.{Next, next}
+use Rattle.demands.specs.Add.{Add, add}
 use Rattle.demands.specs.Date as dates
 use Rattle.demands.specs.Timestamp as timestamps
 use Rattle.demands.specs.Precision.{precision}
@@ -37,10 +42,10 @@ use Rattle.demands.specs.Broadcast.{Broadcast, broadcast, BroadcastArriv
 use Rattle.demands.specs.Entry.{Entry, entry}
 use Rattle.demands.specs.Tick.{Tick, tick}
 
--- a test with its number, or the place of a kiss
+-- a test with its number, or an outcome after which no later test is made: a kiss, or a field that is handed out
 pub data Place : Type 0 where
   test : ℕ → Place
-  kiss : Place
+  outcome : Place
 
 -- ---- the orders of docs/RULES.md
 
@@ -56,7 +61,7 @@ abbrev pub measureOrder : List Place
 measureOrder = tests (43 ∷ 15 ∷ 16 ∷ 43 ∷ 17 ∷ 18 ∷ 43 ∷ 43 ∷ 19 ∷ [])
 
 abbrev pub arrivalOrder : List Place
-arrivalOrder = tests (29 ∷ 7 ∷ 8 ∷ 9 ∷ 10 ∷ 11 ∷ []) ++ kiss ∷ tests (3 ∷ 12 ∷ 13 ∷ 14 ∷ 33 ∷ 34 ∷ []) ++ measureOrder
+arrivalOrder = tests (29 ∷ 7 ∷ 8 ∷ 9 ∷ 10 ∷ 11 ∷ []) ++ outcome ∷ tests (3 ∷ 12 ∷ 13 ∷ 14 ∷ 33 ∷ 34 ∷ []) ++ measureOrder
 
 abbrev pub giveUpOrder : List Place
 giveUpOrder = tests (29 ∷ 8 ∷ 20 ∷ [])
@@ -82,6 +87,15 @@ readOrder = tests (7 ∷ [])
 abbrev pub writeOrder : List Place
 writeOrder = tests (1 ∷ 27 ∷ [])
 
+abbrev pub beginOrder : List Place
+beginOrder = tests (7 ∷ [])
+
+abbrev pub nextOrder : List Place
+nextOrder = outcome ∷ tests (7 ∷ [])
+
+abbrev pub addOrder : List Place
+addOrder = tests (7 ∷ 7 ∷ 44 ∷ 44 ∷ [])
+
 abbrev pub dateOrder : List Place
 dateOrder = tests (24 ∷ [])
 
@@ -101,13 +115,13 @@ tickOrder = tests (29 ∷ 32 ∷ [])
 
 abbrev pub ofRules : {O : Type 0} → Rules O → List Place
 ofRules (n unless P then rest) = test n ∷ ofRules rest
-ofRules (o provided P else rest) = kiss ∷ ofRules rest
+ofRules (o provided P else rest) = outcome ∷ ofRules rest
 ofRules (does o) = []
 ofRules (refuses n) = test n ∷ []
 
 abbrev pub ofTable : {A : Type 0} → Tests A → List Place
 ofTable (n if b else rest) = test n ∷ ofTable rest
-ofTable (a when b else rest) = kiss ∷ ofTable rest
+ofTable (a when b else rest) = outcome ∷ ofTable rest
 ofTable (otherwise a) = []
 
 -- both have this order
@@ -135,6 +149,9 @@ pub record Orders : Type 0 where
   pub four : (x : Four) → Both measureOrder (offsetTests (x .t4 since x .t1) (x .t3 since x .t2) (P x) (Q x)) (measure .rules x)
   pub reading : (p : List ℕ) → Both readOrder (readTests p) (read .rules p)
   pub writing : (x : Fill) → Both writeOrder (writeTests (x .buffer) (x .fields)) (write .rules x)
+  pub beginning : (p : List ℕ) → Both beginOrder (beginTests p) (begin .rules p)
+  pub stepping : (x : Next) → Both nextOrder (nextTests (drop (x .cursor .at) (x .packet)) (x .cursor .at)) (next .rules x)
+  pub adding : (x : Add) → Both addOrder (addTests (x .buffer) (x .size) (length (x .body))) (add .rules x)
   pub date : (t : Timestamp) → Both dateOrder (dateTests t) (dates.date .rules t)
   pub timestamp : (d : Date) → Both timestampOrder (timestampTests d) (timestamps.timestamp .rules d)
   pub precisions : (n : ℕ) → Both precisionOrder (precisionTests n) (precision .rules n)

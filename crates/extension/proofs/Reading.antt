@@ -10,7 +10,7 @@ use lib.Dec.{eqb}
 use lib.ListN.{length, drop, length-drop}
 use lib.Seq.{getD-drop}
 use Rattle.arithmetic.specs.Octets.{AreOctets}
-use Rattle.ordered_tests.proofs.Reflection.{WhereFalse, negated, both, is-true, is-false, at-least}
+use Rattle.ordered_tests.proofs.Reflection.{WhereTrue, WhereFalse, negated, both, is-true, is-false, at-least}
 use Rattle.extension.specs.Tail.{headerLength, maximumLength, Field, octetsOf, Legal, Authenticator, of-4, of-20, of-24, Tail, end, authenticator, field, WellFormed, joined}
 use Rattle.extension.specs.Reading.{endsFields, beginsField, statedLength, firstField, Reading, noField, fieldThen, readingUpTo, reading, extensionFields, afterFields, isMalformed}
 use Rattle.extension.specs.TailLaws.{TailLaws}
@@ -96,7 +96,7 @@ unique p q =
     let e = sym (complete p .0) ∙ complete q .0 in
     (ap (λ r. r .fields) e, ap (λ r. r .rest) e)
 
-pub end-cases : (n : ℕ) → endsFields n ≡ true → (n ≡ 0) ⊎ Authenticator n
+end-cases : (n : ℕ) → endsFields n ≡ true → (n ≡ 0) ⊎ Authenticator n
 unfolding endsFields
 end-cases n e = go (eqb n 0) (eqb n 4) (eqb n 20) (eqb n 24) refl refl refl refl e
   where
@@ -107,6 +107,9 @@ end-cases n e = go (eqb n 0) (eqb n 4) (eqb n 20) (eqb n 24) refl refl refl refl
     go false false false true p q r s x = inr (rw (eqb-true n 24 s) of-24)
     go false false false false p q r s x = absurd (false≢true x)
 
+pub ends : (n : ℕ) → WhereTrue ((n ≡ 0) ⊎ Authenticator n) (endsFields n)
+ends n = record { to = λ h. is-true (endsFields n) .to (⊎-elim (λ e. ap endsFields e ∙ empty .1) authenticator-ends h); from = λ t. end-cases n (is-true (endsFields n) .from t) }
+
 pub ends-short : (n : ℕ) → endsFields n ≡ true → n < 28
 ends-short n e = ⊎-elim (λ z. omega arith) authenticator-short (end-cases n e)
 
@@ -114,31 +117,32 @@ end-tail : (t : List ℕ) → endsFields (length t) ≡ true → Tail t [] t
 end-tail [] e = end
 end-tail (x ∷ t) e = ⊎-elim (λ z. absurd (omega arith)) authenticator (end-cases (suc (length t)) e)
 
--- What is true of nothing and of an authenticator, and, where a field begins, follows of all octets from those behind it, is true of every tail.
-module _ (P : List ℕ → Type 0) (ends : (t : List ℕ) → endsFields (length t) ≡ true → P t)
+-- What is true of octets whose number may be left after the fields, and, where a field begins, follows of all octets from those behind it, is true of
+-- octets after whose fields such a number is left.
+module _ (Last : ℕ → Type 0) (P : List ℕ → Type 0) (last : (t : List ℕ) → Last (length t) → P t)
     (begins : (t : List ℕ) → beginsField t ≡ true → P (drop (statedLength t) t) → P t) where
-  no-field : (t : List ℕ) → beginsField t ≡ false → endsFields (length (reading t .rest)) ≡ true → P t
-  no-field t f e = ends t (rw (reading-none t f) at e)
+  no-field : (t : List ℕ) → beginsField t ≡ false → Last (length (reading t .rest)) → P t
+  no-field t f e = last t (rw (reading-none t f) at e)
 
-  up-to : (n : ℕ) (t : List ℕ) → length t ≤ n → endsFields (length (reading t .rest)) ≡ true → P t
+  up-to : (n : ℕ) (t : List ℕ) → length t ≤ n → Last (length (reading t .rest)) → P t
   up-to zero t h e = no-field t (no-room (length t) (statedLength t) (omega arith)) e
   up-to (suc n) t h e = go (beginsField t) refl (up-to n (drop (statedLength t) t))
     where
       rest : List ℕ
       rest = drop (statedLength t) t
 
-      go : (b : Bool) → beginsField t ≡ b → (length rest ≤ n → endsFields (length (reading rest .rest)) ≡ true → P rest) → P t
+      go : (b : Bool) → beginsField t ≡ b → (length rest ≤ n → Last (length (reading rest .rest)) → P rest) → P t
       go true f again =
           let l = is-length (length t) (statedLength t) f in
           begins t f (again (rw length-drop (omega arith)) (rw (reading-field t f) at e))
       go false f again = no-field t f e
 
-  pub by-fields : (t : List ℕ) → endsFields (length (reading t .rest)) ≡ true → P t
+  pub by-fields : (t : List ℕ) → Last (length (reading t .rest)) → P t
   by-fields t = up-to (length t) t (omega arith)
 
 sound : (t : List ℕ) → AreOctets t → endsFields (length (reading t .rest)) ≡ true → Tail t (reading t .fields) (reading t .rest)
 sound t known e =
-    by-fields (λ t. AreOctets t → Tail t (reading t .fields) (reading t .rest))
+    by-fields (λ n. endsFields n ≡ true) (λ t. AreOctets t → Tail t (reading t .fields) (reading t .rest))
     (λ t e known. rw (reading-none t (no-room (length t) (statedLength t) (ends-short (length t) e))) (end-tail t e))
     (λ t f again known.
     let l = is-length (length t) (statedLength t) f in
