@@ -46,7 +46,7 @@ some-token t = refuted (same-token t noToken)
 
 pub begins-field : (t : List ℕ) → WhereTrue (BeginsField t) (beginsField t)
 begins-field t = record {
-  to = λ b. is-true (beginsField t) .to (length-is (length t) (statedLength t) (record { room = b .at-least-28; at-least-16 = b .length-at-least-16; in-fours = b .length-in-fours; within = b .not-past-the-end }));
+  to = λ b. is-true (beginsField t) .to (length-is (length t) (statedLength t) (record { room = omega (arith, b .at-least-28); at-least-16 = b .length-at-least-16; in-fours = b .length-in-fours; within = b .not-past-the-end }));
   from = λ h.
       let l = is-length (length t) (statedLength t) (is-true (beginsField t) .from h) in
       record { at-least-28 = l .room; length-at-least-16 = l .at-least-16; length-in-fours = l .in-fours; not-past-the-end = l .within };

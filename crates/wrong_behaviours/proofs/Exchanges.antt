@@ -65,6 +65,10 @@ module _ (e : Exchange) where
   abbrev pub with-root : ℤ → ℕ → Timestamp → Client × Call
   with-root delay dispersion t4 = (waiting, arrival (record { packet = take 4 packet ++ octets 4 (bits 32 delay) ++ octets 4 dispersion ++ drop 12 packet; t4 = t4; alternate = true }))
 
+  -- the same reply with this tail
+  abbrev pub with-tail : List ℕ → Client × Call
+  with-tail tail = (waiting, arrival (record { packet = packet ++ tail; t4 = T4 e; alternate = true }))
+
   -- the same reply with stratum 0: a kiss
   abbrev pub with-kiss : Bool → Call
   with-kiss alternate = arrival (record { packet = take 1 packet ++ (0 ∷ drop 2 packet); t4 = T4 e; alternate = alternate })

@@ -19,6 +19,7 @@ use Rattle.timestamp.specs.declared.Timestamp.{Timestamp}
 use Rattle.timestamp.specs.Timestamp.{timestamp, fromSeconds, _since_, noOrder}
 use Rattle.offset.specs.Offset.{floorHalf, halfOf, offsetTests, measured}
 use Rattle.offset.specs.Halving.{twice}
+use Rattle.extension.specs.Reading as tails
 use Rattle.packet.specs.declared.FieldsAnswer.{FieldsAnswer}
 use Rattle.packet.specs.Packet.{fieldsOf, octetsOf}
 use Rattle.calendar.specs.Gregorian.{leapDays, yearDays, monthDays, before, last}
@@ -70,10 +71,10 @@ use Rattle.ordered_tests.proofs.Reflection.{contradiction}
 use Rattle.demands.proofs.Form.{acceptance-shown, differs, unique}
 use Rattle.demands.proofs.Each.{each}
 use Rattle.demands.proofs.Demand3.{follows}
-use Rattle.wrong_behaviours.specs.Client.{refusing, alwaysWriting, anyVersion, sendingClock, takingNone, stayingWaiting, spending, alwaysStopping, neverStopping, kissFirst, anyOriginate, unsignedTimes, rootUntested, negativeDelayUntested, dispersionSigned, rootSwapped, rootAfter15, fixing, measuring, zeroOffset, hugeDelay, halfLost, largeHalf, towardZero, halvedApart}
+use Rattle.wrong_behaviours.specs.Client.{refusing, alwaysWriting, anyVersion, sendingClock, takingNone, stayingWaiting, spending, alwaysStopping, neverStopping, anyTail, withoutFields, kissFirst, anyOriginate, unsignedTimes, rootUntested, negativeDelayUntested, dispersionSigned, rootSwapped, rootAfter15, fixing, measuring, zeroOffset, hugeDelay, halfLost, largeHalf, towardZero, halvedApart}
 use Rattle.wrong_behaviours.specs.Others.{preferringFirst, forgettingUse, answeringZero, neverReplying, wrongOriginate, measuringHalfCircle, reversingHalfCircle, tellingHalfCircle, fourthYearDates, fourthYearTimestamps, roundedDown, takingEntries, payingAll, refusingLines, droppingDigits, startingAfresh}
 use Rattle.wrong_behaviours.specs.Refuted.{withClient, withServer, Fails1, Fails2, Fails3, Refuted}
-use Rattle.wrong_behaviours.proofs.Exchanges.{slowBack, slowOut, bothOdd, otherServer, waiting, request, replied, with-root, with-kiss, tells-other, near, inBound, concluded, in-bound}
+use Rattle.wrong_behaviours.proofs.Exchanges.{slowBack, slowOut, bothOdd, otherServer, waiting, request, replied, with-root, with-tail, with-kiss, tells-other, near, inBound, concluded, in-bound}
 
 -- no result is in the bound of two servers that are 2000 units apart
 not-both : (r : Result) → T (inBound slowBack r) → T (inBound otherServer r) → ⊥
@@ -157,18 +158,18 @@ number o = clients.client .shown o .number
 
 module _ (f : Implementation clients.client) where
   back : T (tells-other (negsuc 1003) 1 (pos 7) (f (replied slowBack))) → Fails2 client f
-  unfolding arrived arrivals.arrivalAnswer waitingTests checkTests offsetTests _since_ difference signed _modulo_ noOrder floorHalf halfOf fieldsOf octetsOf octets requests.request illegal askTests afterAsk afterAskBuffer server.replied server.repliedBuffer server.replyTests requestTests server-packet.outOfRange server-packet.packetFields reading tooSoon gaveUp giveUpTests bits
+  unfolding arrived arrivals.arrivalAnswer waitingTests checkTests offsetTests _since_ difference signed _modulo_ noOrder floorHalf halfOf tails.isMalformed tails.reading tails.endsFields tails.isFieldLength fieldsOf octetsOf octets requests.request illegal askTests afterAsk afterAskBuffer server.replied server.repliedBuffer server.replyTests requestTests server-packet.outOfRange server-packet.packetFields reading tooSoon gaveUp giveUpTests bits
   back seen = differs (each client .answers) (replied slowBack) (tells-other (negsuc 1003) 1 (pos 7)) seen tt
 
   odd : T (tells-other (negsuc 1002) 0 (pos 8) (f (replied bothOdd))) → Fails2 client f
-  unfolding arrived arrivals.arrivalAnswer waitingTests checkTests offsetTests _since_ difference signed _modulo_ noOrder floorHalf halfOf fieldsOf octetsOf octets requests.request illegal askTests afterAsk afterAskBuffer server.replied server.repliedBuffer server.replyTests requestTests server-packet.outOfRange server-packet.packetFields reading tooSoon gaveUp giveUpTests bits
+  unfolding arrived arrivals.arrivalAnswer waitingTests checkTests offsetTests _since_ difference signed _modulo_ noOrder floorHalf halfOf tails.isMalformed tails.reading tails.endsFields tails.isFieldLength fieldsOf octetsOf octets requests.request illegal askTests afterAsk afterAskBuffer server.replied server.repliedBuffer server.replyTests requestTests server-packet.outOfRange server-packet.packetFields reading tooSoon gaveUp giveUpTests bits
   odd seen = differs (each client .answers) (replied bothOdd) (tells-other (negsuc 1002) 0 (pos 8)) seen tt
 
   over-2036 : T (tells-other (pos 43486543872) 0 (pos 3221225472) (f (replied replay))) → Fails2 client f
-  unfolding arrived arrivals.arrivalAnswer waitingTests checkTests offsetTests _since_ difference signed _modulo_ noOrder floorHalf halfOf fieldsOf octetsOf octets requests.request illegal askTests afterAsk afterAskBuffer server.replied server.repliedBuffer server.replyTests requestTests server-packet.outOfRange server-packet.packetFields reading tooSoon gaveUp giveUpTests bits
+  unfolding arrived arrivals.arrivalAnswer waitingTests checkTests offsetTests _since_ difference signed _modulo_ noOrder floorHalf halfOf tails.isMalformed tails.reading tails.endsFields tails.isFieldLength fieldsOf octetsOf octets requests.request illegal askTests afterAsk afterAskBuffer server.replied server.repliedBuffer server.replyTests requestTests server-packet.outOfRange server-packet.packetFields reading tooSoon gaveUp giveUpTests bits
   over-2036 seen = differs (each client .answers) (replied replay) (tells-other (pos 43486543872) 0 (pos 3221225472)) seen tt
 
-  -- a reply with root fields out of range, of which this number is told, and not by ours
+  -- a reply of which this number is told, and not by ours
   tells : (i : Client × Call) (n : ℕ) → T (eqb (number (f i)) n) → T (not (eqb (number (ours .does client i)) n)) → Fails2 client f
   tells i n = differs (each client .answers) i (λ o. eqb (number o) n)
 
@@ -201,7 +202,7 @@ abbrev accepted-ask : acceptance ≢ refusal
 accepted-ask = acceptance-shown .0
 
 pub refuted : Refuted
-unfolding measured broadcastArrived fieldTests outside anyIllegal firstRunning arrivedFor listAfterArrival rowOf arrived arrivals.arrivalAnswer waitingTests checkTests offsetTests _since_ difference signed _modulo_ noOrder floorHalf halfOf fieldsOf octetsOf octets requests.request illegal askTests afterAsk afterAskBuffer server.replied server.repliedBuffer server.replyTests requestTests server-packet.outOfRange server-packet.packetFields reading ticks.reading cutDown tooSoon gaveUp giveUpTests bits
+unfolding measured broadcastArrived fieldTests outside anyIllegal firstRunning arrivedFor listAfterArrival rowOf arrived arrivals.arrivalAnswer waitingTests checkTests offsetTests _since_ difference signed _modulo_ noOrder floorHalf halfOf tails.isMalformed tails.reading tails.endsFields tails.isFieldLength fieldsOf octetsOf octets requests.request illegal askTests afterAsk afterAskBuffer server.replied server.repliedBuffer server.replyTests requestTests server-packet.outOfRange server-packet.packetFields reading ticks.reading cutDown tooSoon gaveUp giveUpTests bits
 refuted =
     let at-back = orderly slowBack tt in
     let at-out = orderly slowOut tt in
@@ -242,6 +243,9 @@ refuted =
         (λ law. law (waiting slowBack) (with-kiss slowBack false ∷ []) waiting-runs (refl, tt) refl),
       );
       never-stops = differs (each client .answers) (waiting slowBack, with-kiss slowBack true) (λ o. not (isStopped (o .next .phase))) tt tt;
+      -- one octet more than 48; a field of 28 octets
+      any-tail = tells anyTail (with-tail slowBack (0 ∷ [])) 0 tt tt;
+      without-fields = tells withoutFields (with-tail slowBack (0 ∷ 0 ∷ 0 ∷ 28 ∷ replicate 24 0)) 7 tt tt;
       -- a packet of 48 zero octets, which a stranger sent
       kiss-before-originate = (
         differs (each client .answers) (waiting slowBack, arrival (record { packet = buffer; t4 = T4 slowBack; alternate = true })) (λ o. eqb (number o) 0) tt tt,

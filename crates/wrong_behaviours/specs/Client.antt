@@ -2,7 +2,7 @@
 use Prim.Native.Nat.{ℕ, min, _+_, _^_}
 use mathlib.Core.Bool.{Bool, true, false, cond, not}
 use mathlib.Core.List.{List, [], _++_}
-use lib.Dec.{eqb}
+use lib.Dec.{eqb, ltb}
 use lib.IntN.{ℤ, pos, _+ℤ_, _-ℤ_}
 use lib.ListN.{length, take, drop}
 use lib.Signed.{quotZ, leZ}
@@ -13,8 +13,9 @@ use Rattle.timestamp.specs.declared.Timestamp.{Timestamp}
 use Rattle.timestamp.specs.Timestamp.{timestamp, _since_, negative}
 use Rattle.token.specs.Token.{token}
 use Rattle.offset.specs.Offset.{floorHalf, offsetTests}
+use Rattle.extension.specs.Reading.{isMalformed}
 use Rattle.packet.specs.declared.Fields.{Fields}
-use Rattle.packet.specs.Packet.{wrongLength, fieldsOf}
+use Rattle.packet.specs.Packet.{fieldsOf}
 use Rattle.sanity.specs.Sanity.{headerTests, rootDelayOutOfRange, rootDispersionTooLarge, rootTests}
 use Rattle.client.specs.declared.Client.{Client}
 use Rattle.client.specs.declared.Phase.the-variants.{Idle}
@@ -111,11 +112,21 @@ testing tests = arriving (λ c x.
 abbrev kissed : Fields → ArrivalAnswer
 kissed f = ArrivalAnswer.Kiss (f .identifier) (rowOf (f .identifier))
 
+-- it looks at no tail, and takes any
+abbrev pub anyTail : Implementation client
+anyTail = testing (λ c x. arrivalTests c (take 48 (x .packet)) (x .t4))
+
+-- it takes a packet without extension fields alone
+abbrev pub withoutFields : Implementation client
+withoutFields = testing (λ c x.
+    packet-length-wrong if ltb 68 (length (x .packet)) else
+    arrivalTests c (x .packet) (x .t4))
+
 -- it obeys a kiss before the originate test
 abbrev pub kissFirst : Implementation client
 kissFirst = testing (λ c x.
     record-not-legal if illegal c else
-    packet-length-wrong if wrongLength (x .packet) else
+    packet-length-wrong if isMalformed (x .packet) else
     not-waiting if not (isWaiting (c .phase)) else
     kissed (fieldsOf (x .packet)) when eqb (fieldsOf (x .packet) .stratum) 0 else
     arrivalTests c (x .packet) (x .t4))
@@ -125,7 +136,7 @@ abbrev pub anyOriginate : Implementation client
 anyOriginate = testing (λ c x.
     let f = fieldsOf (x .packet) in
     record-not-legal if illegal c else
-    packet-length-wrong if wrongLength (x .packet) else
+    packet-length-wrong if isMalformed (x .packet) else
     not-waiting if not (isWaiting (c .phase)) else
     checkTests (c .t1) (token (f .originate .0)) (c .version) f (x .t4))
 
@@ -134,7 +145,7 @@ abbrev checking : (Client → Fields → Timestamp → Tests ArrivalAnswer) → 
 checking rest = testing (λ c x.
     let f = fieldsOf (x .packet) in
     record-not-legal if illegal c else
-    packet-length-wrong if wrongLength (x .packet) else
+    packet-length-wrong if isMalformed (x .packet) else
     not-waiting if not (isWaiting (c .phase)) else
     matchTests (c .token) (c .version) f (
     kissed f when eqb (f .stratum) 0 else

@@ -12,8 +12,9 @@ use Rattle.ordered_tests.specs.Tests.{_if_else_, otherwise, answer}
 use Rattle.timestamp.specs.declared.Timestamp.{Timestamp}
 use Rattle.timestamp.specs.Timestamp.{constants, fromSeconds, fractionOf, isZero, _since_, negative}
 use Rattle.offset.specs.declared.OffsetAnswer.{OffsetAnswer}
+use Rattle.extension.specs.Reading.{isMalformed}
 use Rattle.packet.specs.declared.FieldsAnswer.{FieldsAnswer}
-use Rattle.packet.specs.Packet.{wrongLength, fieldsOf, octetsOf}
+use Rattle.packet.specs.Packet.{fieldsOf, octetsOf}
 use Rattle.calendar.specs.declared.Date.{Date}
 use Rattle.calendar.specs.declared.DateAnswer.{DateAnswer}
 use Rattle.calendar.specs.declared.TimestampAnswer.{TimestampAnswer}
@@ -123,7 +124,7 @@ tellingHalfCircle x = lowest (broadcasts.ours-arrival x)
 -- ---- the packet: reader and writer refuse what ours refuse, and do nothing
 
 abbrev pub readingNothing : Implementation read
-readingNothing p = answer FieldsAnswer.Refused (packet-length-wrong if wrongLength p else otherwise (FieldsAnswer.Fields (fieldsOf (replicate 48 0))))
+readingNothing p = answer FieldsAnswer.Refused (packet-length-wrong if isMalformed p else otherwise (FieldsAnswer.Fields (fieldsOf (replicate 48 0))))
 
 abbrev pub writingNothing : Implementation write
 writingNothing x = record { answer = writing.ours x .answer; octets = x .buffer }

@@ -12,13 +12,13 @@ use Rattle.demands.specs.Client as clients
 use Rattle.demands.specs.Reply as replies
 use Rattle.demands.specs.Reply.{Request}
 use Rattle.demands.specs.Line.{carrying}
-use Rattle.demands.specs.Behaviour.{Operation, client, association, reply, broadcast, broadcastArrival, measure, read, write, date, timestamp, precision, entry, tick, line, form, Behaviour, ours}
+use Rattle.demands.specs.Behaviour.{Operation, client, association, reply, broadcast, broadcastArrival, measure, read, write, begin, next, body, add, date, timestamp, precision, entry, tick, line, form, Behaviour, ours}
 use Rattle.demands.specs.Demand2.{Demand2}
 use Rattle.demands.specs.Demand3.{Demand3}
 use Rattle.demands.specs.Ticks.{Ticks}
 use Rattle.demands.specs.SingleServer.{NeverStops}
 use Rattle.demands.specs.Wire.{ClockUnseen}
-use Rattle.wrong_behaviours.specs.Client.{laterStart, refusing, alwaysWriting, anyVersion, sendingClock, takingNone, stayingWaiting, spending, alwaysStopping, neverStopping, kissFirst, anyOriginate, unsignedTimes, rootUntested, negativeDelayUntested, dispersionSigned, rootSwapped, rootAfter15, fixing, measuring, zeroOffset, hugeDelay, halfLost, largeHalf, towardZero, halvedApart}
+use Rattle.wrong_behaviours.specs.Client.{laterStart, refusing, alwaysWriting, anyVersion, sendingClock, takingNone, stayingWaiting, spending, alwaysStopping, neverStopping, anyTail, withoutFields, kissFirst, anyOriginate, unsignedTimes, rootUntested, negativeDelayUntested, dispersionSigned, rootSwapped, rootAfter15, fixing, measuring, zeroOffset, hugeDelay, halfLost, largeHalf, towardZero, halvedApart}
 use Rattle.wrong_behaviours.specs.Others.{preferringFirst, forgettingUse, answeringZero, neverReplying, wrongOriginate, replyingAnyway, measuringHalfCircle, reversingHalfCircle, tellingHalfCircle, readingNothing, writingNothing, fourthYearDates, fourthYearTimestamps, roundedDown, refusingEntries, takingEntries, payingAll, refusingLines, droppingDigits, startingAfresh}
 
 -- ours with this client
@@ -31,6 +31,10 @@ clientOf f broadcastArrival = ours .does broadcastArrival
 clientOf f measure = ours .does measure
 clientOf f read = ours .does read
 clientOf f write = ours .does write
+clientOf f begin = ours .does begin
+clientOf f next = ours .does next
+clientOf f body = ours .does body
+clientOf f add = ours .does add
 clientOf f date = ours .does date
 clientOf f timestamp = ours .does timestamp
 clientOf f precision = ours .does precision
@@ -51,6 +55,10 @@ serverOf f broadcastArrival = ours .does broadcastArrival
 serverOf f measure = ours .does measure
 serverOf f read = ours .does read
 serverOf f write = ours .does write
+serverOf f begin = ours .does begin
+serverOf f next = ours .does next
+serverOf f body = ours .does body
+serverOf f add = ours .does add
 serverOf f date = ours .does date
 serverOf f timestamp = ours .does timestamp
 serverOf f precision = ours .does precision
@@ -106,6 +114,8 @@ pub record Refuted : Type 0 where
   pub unsigned-times : Client23 unsignedTimes
   pub always-stops : Fails2 client alwaysStopping × (NeverStops (withClient alwaysStopping) → ⊥)
   pub never-stops : Fails2 client neverStopping
+  pub any-tail : Fails2 client anyTail
+  pub without-fields : Fails2 client withoutFields
   pub kiss-before-originate : Client23 kissFirst
   pub any-originate : Fails2 client anyOriginate
   pub root-untested : Fails2 client rootUntested
