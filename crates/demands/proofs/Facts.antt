@@ -14,10 +14,10 @@ use Rattle.timestamp.specs.declared.Timestamp.{Timestamp}
 use Rattle.timestamp.specs.Timestamp.{timestamp, isZero, noOrder}
 use Rattle.token.specs.declared.Token.{Token}
 use Rattle.token.specs.Token.{token, isZeroToken}
-use Rattle.extension.specs.Reading.{endsFields, beginsField, statedLength, reading, afterFields, isMalformed}
+use Rattle.extension.specs.Reading.{beginsField, statedLength, reading, isMalformed}
 use Rattle.extension.proofs.Heads.{is-length, length-is, no-room}
 use Rattle.extension.proofs.Reading as tails
-use Rattle.extension.proofs.Reading.{reading-field, reading-none, ends, ends-short, by-fields, taken}
+use Rattle.extension.proofs.Reading.{reading-field, reading-none, ends-short, by-fields, taken}
 use Rattle.poll.specs.Poll.{tooSoon}
 use Rattle.client.specs.declared.Phase.{Phase}
 use Rattle.client.specs.declared.Phase.the-variants.{Idle, Waiting, Stopped}
@@ -70,13 +70,10 @@ only-fields t =
 
 pub packet : (p : List ℕ) → WhereFalse (IsPacket p) (isMalformed p)
 packet p =
-    let then = fields-then EndsFields (λ n h. ends-short n (is-true (endsFields n) .from (ends n .to h))) (drop 48 p) in
-    let n = length (afterFields p) in
+    let then = fields-then EndsFields ends-short (drop 48 p) in
     record {
-      to = λ k. taken p .to (record { at-least-48 = k .at-least-48; at-most-1024 = k .at-most-1024; ends = is-true (endsFields n) .from (ends n .to (then .0 (k .tail))) });
-      from = λ h.
-          let k = taken p .from h in
-          record { at-least-48 = k .at-least-48; at-most-1024 = k .at-most-1024; tail = then .1 (ends n .from (is-true (endsFields n) .to (k .ends))) };
+      to = λ k. taken p .to (record { at-least-48 = k .at-least-48; at-most-1024 = k .at-most-1024; ends = then .0 (k .tail) });
+      from = λ h. let k = taken p .from h in record { at-least-48 = k .at-least-48; at-most-1024 = k .at-most-1024; tail = then .1 (k .ends) };
     }
 
 -- 48 octets are one

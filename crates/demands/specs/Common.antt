@@ -37,7 +37,7 @@ pub record BeginsField (t : List ℕ) : Type 0 where
   pub length-in-fours : statedLength t % 4 ≡ 0
   pub not-past-the-end : statedLength t ≤ length t
 
--- fields one after another, and behind them a number of octets that may be the last
+-- fields one after another, and behind the last of them so many octets as may stand there
 pub data FieldsThen (Last : ℕ → Type 0) : List ℕ → Type 0 where
   last : {t : List ℕ} → Last (length t) → FieldsThen Last t
   field : {t : List ℕ} → BeginsField t → FieldsThen Last (drop (statedLength t) t) → FieldsThen Last t

@@ -110,8 +110,8 @@ end-cases n e = go (eqb n 0) (eqb n 4) (eqb n 20) (eqb n 24) refl refl refl refl
 pub ends : (n : ℕ) → WhereTrue ((n ≡ 0) ⊎ Authenticator n) (endsFields n)
 ends n = record { to = λ h. is-true (endsFields n) .to (⊎-elim (λ e. ap endsFields e ∙ empty .1) authenticator-ends h); from = λ t. end-cases n (is-true (endsFields n) .from t) }
 
-pub ends-short : (n : ℕ) → endsFields n ≡ true → n < 28
-ends-short n e = ⊎-elim (λ z. omega arith) authenticator-short (end-cases n e)
+pub ends-short : (n : ℕ) → (n ≡ 0) ⊎ Authenticator n → n < 28
+ends-short n h = ⊎-elim (λ z. omega arith) authenticator-short h
 
 end-tail : (t : List ℕ) → endsFields (length t) ≡ true → Tail t [] t
 end-tail [] e = end
@@ -143,7 +143,7 @@ module _ (Last : ℕ → Type 0) (P : List ℕ → Type 0) (last : (t : List ℕ
 sound : (t : List ℕ) → AreOctets t → endsFields (length (reading t .rest)) ≡ true → Tail t (reading t .fields) (reading t .rest)
 sound t known e =
     by-fields (λ n. endsFields n ≡ true) (λ t. AreOctets t → Tail t (reading t .fields) (reading t .rest))
-    (λ t e known. rw (reading-none t (no-room (length t) (statedLength t) (ends-short (length t) e))) (end-tail t e))
+    (λ t e known. rw (reading-none t (no-room (length t) (statedLength t) (ends-short (length t) (end-cases (length t) e)))) (end-tail t e))
     (λ t f again known.
     let l = is-length (length t) (statedLength t) f in
     rw (reading-field t f) (field (l .room) (legal-here t known f) (front-here t known f) (again (λ i. rw getD-drop (known (statedLength t + i))))))
@@ -154,13 +154,13 @@ sound t known e =
 pub record Taken (packet : List ℕ) : Type 0 where
   pub at-least-48 : headerLength ≤ length packet
   pub at-most-1024 : length packet ≤ maximumLength
-  pub ends : endsFields (length (afterFields packet)) ≡ true
+  pub ends : (length (afterFields packet) ≡ 0) ⊎ Authenticator (length (afterFields packet))
 
 -- 7 is given exactly where not
 pub taken : (packet : List ℕ) → WhereFalse (Taken packet) (isMalformed packet)
 unfolding isMalformed
 taken p =
-    let three = both (both (at-least (length p) headerLength) (at-least maximumLength (length p))) (negated (is-true (endsFields (length (afterFields p))))) in
+    let three = both (both (at-least (length p) headerLength) (at-least maximumLength (length p))) (negated (ends (length (afterFields p)))) in
     record {
       to = λ k. three .to ((k .at-least-48, k .at-most-1024), k .ends);
       from = λ t. let ((a, b), c) = three .from t in record { at-least-48 = a; at-most-1024 = b; ends = c };
@@ -172,16 +172,16 @@ taken-false p e = taken p .from (is-false (isMalformed p) .to e)
 not-refused : (packet : List ℕ) → AreOctets packet → isMalformed packet ≡ false → WellFormed packet (extensionFields packet) (afterFields packet)
 not-refused p known e =
     let k = taken-false p e in
-    record { at-least-48 = k .at-least-48; at-most-1024 = k .at-most-1024; tail = sound (drop headerLength p) (λ i. rw getD-drop (known (headerLength + i))) (k .ends) }
+    record { at-least-48 = k .at-least-48; at-most-1024 = k .at-most-1024; tail = sound (drop headerLength p) (λ i. rw getD-drop (known (headerLength + i))) (is-true _ .from (ends _ .to (k .ends))) }
 
 well-formed : {packet a : List ℕ} {fs : List Field} → WellFormed packet fs a → isMalformed packet ≡ false
 well-formed {packet} w =
     let c = complete (w .tail) in
-    is-false (isMalformed packet) .from (taken packet .to (record { at-least-48 = w .at-least-48; at-most-1024 = w .at-most-1024; ends = rw (ap (λ r. length (r .rest)) (c .0)) (c .1) }))
+    is-false (isMalformed packet) .from (taken packet .to (record { at-least-48 = w .at-least-48; at-most-1024 = w .at-most-1024; ends = end-cases _ (rw (ap (λ r. length (r .rest)) (c .0)) (c .1)) }))
 
 without-fields : (packet : List ℕ) → headerLength ≤ length packet → endsFields (length packet - headerLength) ≡ true → isMalformed packet ≡ false
 without-fields packet h e =
-    let l = ends-short (length packet - headerLength) e in
+    let l = ends-short (length packet - headerLength) (end-cases (length packet - headerLength) e) in
     well-formed {fs = []} (record { at-least-48 = h; at-most-1024 = omega arith; tail = end-tail (drop headerLength packet) (rw length-drop e) })
 
 pub of-48 : (packet : List ℕ) → length packet ≡ headerLength → isMalformed packet ≡ false
