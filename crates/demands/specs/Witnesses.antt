@@ -21,7 +21,7 @@ settings = record { synchronised = true; leap = 0; precision = negℤ (pos 20); 
 abbrev pub buffer : List ℕ
 buffer = replicate 48 0
 
--- one of each kind: an ask, an arrival with another originate timestamp, one of a wrong length, and a give-up too early
+-- one of each kind: an ask, an arrival with another originate timestamp, one that is too short, and a give-up too early
 abbrev pub calls : List Call
 calls =
     ask (record { buffer = buffer; version = 4; clock = timestamp 0xFFFFFFFA80000000; token = token 8; uptime = 1 })

@@ -28,7 +28,7 @@ already-waiting = 5
 abbrev pub asked-too-soon : ℕ
 asked-too-soon = 6
 
--- packet length not 48 or 68
+-- packet shorter than 48 octets, longer than 1024, or with a tail that breaks the rules (docs/RULES.md, "Extension fields")
 abbrev pub packet-length-wrong : ℕ
 packet-length-wrong = 7
 

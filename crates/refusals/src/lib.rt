@@ -20,7 +20,7 @@ pub const ALREADY_WAITING: u8 = 5;
 // Asked before, and uptime is below that uptime or less than 2^exponent s past it.
 pub const ASKED_TOO_SOON: u8 = 6;
 
-// Packet length not 48 or 68.
+// Packet shorter than 48 octets, longer than 1024, or with a tail that breaks the rules (docs/RULES.md, "Extension fields").
 pub const PACKET_LENGTH_WRONG: u8 = 7;
 
 // Not waiting.
