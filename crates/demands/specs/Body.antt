@@ -14,7 +14,7 @@ pub record Body : Type 0 where
 abbrev pub octetsOf : Body → List ℕ
 octetsOf x = part (x .start) (x .end - x .start) (x .packet)
 
--- some program might refuse
+-- ours refuses nothing; some other program might
 abbrev pub shown : Given (List ℕ) → Shown
 shown (refused n) = refusedBy 0 n
 shown (answered octets) = telling (numbers octets)
