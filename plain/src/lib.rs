@@ -5,6 +5,7 @@
 pub mod arrival;
 pub mod client;
 pub mod client_block;
+pub mod extension;
 pub mod kiss;
 pub mod packet;
 pub mod refusal;

@@ -1,11 +1,10 @@
 //! The 48 octets of a packet and their fields.
 
+use crate::extension;
 use crate::refusal::Refusal;
 use crate::timestamp::Timestamp;
 
 pub const LENGTH: usize = 48;
-/// A packet with an authenticator of 20 octets, which is not read.
-pub const LENGTH_AUTHENTICATED: usize = 68;
 
 pub const MODE_CLIENT: u8 = 3;
 pub const MODE_SERVER: u8 = 4;
@@ -31,11 +30,13 @@ pub struct Fields {
     pub transmit: Timestamp,
 }
 
-/// The first 48 octets of a packet; any length but 48 and 68 is refused.
+/// The first 48 octets of a packet; a shorter one is refused, and one with a tail that is not legal.
+/// Most packets have no tail, so that is tested first.
 #[inline(always)]
 pub fn check_length(packet: &[u8]) -> Result<&Octets, Refusal> {
-    match packet.len() {
-        LENGTH | LENGTH_AUTHENTICATED => packet.first_chunk().ok_or(Refusal::PacketLength),
+    match packet.split_first_chunk() {
+        Some((octets, [])) => Ok(octets),
+        Some((octets, tail)) if extension::is_legal_tail(tail) => Ok(octets),
         _ => Err(Refusal::PacketLength),
     }
 }
@@ -149,11 +150,20 @@ mod tests {
     }
 
     #[test]
-    fn a_packet_has_48_or_68_octets() {
+    fn a_packet_has_48_octets_or_a_legal_tail() {
         for length in 0..80 {
-            let legal = length == 48 || length == 68;
+            let legal = [48, 52, 68, 72].contains(&length);
             assert_eq!(read(&vec![0; length]).is_ok(), legal, "{length}");
         }
+        let mut packet = [0; 1028];
+        packet[51] = 28;
+        assert!(read(&packet[..76]).is_ok());
+        assert!(read(&packet[..77]).is_err());
+        packet[50..52].copy_from_slice(&976_u16.to_be_bytes());
+        assert!(read(&packet[..1024]).is_ok());
+        assert!(read(&packet[..1020]).is_err());
+        packet[50..52].copy_from_slice(&980_u16.to_be_bytes());
+        assert!(read(&packet).is_err());
     }
 
     #[test]
