@@ -3,6 +3,8 @@
 pub mod answer;
 pub mod broadcast_call;
 pub mod call;
+mod extension_answer;
+pub mod extension_call;
 pub mod list_call;
 pub mod records;
 

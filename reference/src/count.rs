@@ -24,6 +24,11 @@ enum Row {
     Malformed {
         kind: &'static str,
     },
+    /// Lines of an operation that are too short or too long.
+    WrongLength {
+        operation: u8,
+        long: bool,
+    },
 }
 
 impl fmt::Display for Row {
@@ -31,6 +36,10 @@ impl fmt::Display for Row {
         match self {
             Row::Call { operation, outcome } => write!(out, "{operation:02X} {outcome}"),
             Row::Malformed { kind } => write!(out, "-- 64{kind}"),
+            Row::WrongLength { operation, long } => {
+                let side = if *long { "long" } else { "short" };
+                write!(out, "-- 64-length-{operation:02X}-{side}")
+            }
         }
     }
 }

@@ -1,7 +1,7 @@
 //! An independent second program for the SNTP client, a gateway's associations, the server,
-//! broadcast, the calendar, the precision octet, the ledger and both line formats, so that its
-//! answers can be compared octet for octet with another program's. It is written from
-//! docs/RULES.md and docs/CONFORMANCE.md alone.
+//! broadcast, extension fields, the calendar, the precision octet, the ledger and both line
+//! formats, so that its answers can be compared octet for octet with another program's. It is
+//! written from docs/RULES.md and docs/CONFORMANCE.md alone.
 
 #![cfg_attr(not(test), deny(clippy::unwrap_used, clippy::expect_used, clippy::panic))]
 
@@ -15,6 +15,7 @@ pub mod conformance;
 pub mod count;
 pub mod direct_calendar;
 pub mod direct_measure;
+pub mod extension;
 pub mod generate;
 pub mod hex_lines;
 pub mod kiss;

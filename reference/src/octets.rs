@@ -26,6 +26,10 @@ impl<'a> Reader<'a> {
         self.octets().map(i8::from_be_bytes)
     }
 
+    pub fn u16(&mut self) -> Result<u16, Short> {
+        self.octets().map(u16::from_be_bytes)
+    }
+
     pub fn u32(&mut self) -> Result<u32, Short> {
         self.octets().map(u32::from_be_bytes)
     }
@@ -40,6 +44,13 @@ impl<'a> Reader<'a> {
 
     pub fn i64(&mut self) -> Result<i64, Short> {
         self.octets().map(i64::from_be_bytes)
+    }
+
+    /// So many octets.
+    pub fn slice(&mut self, count: usize) -> Result<&'a [u8], Short> {
+        let (first, rest) = self.0.split_at_checked(count).ok_or(Short)?;
+        self.0 = rest;
+        Ok(first)
     }
 
     /// All that is left.

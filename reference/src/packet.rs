@@ -1,12 +1,11 @@
 //! The fields of the 48 octets, read and written: docs/RULES.md, "The 48 octets".
 
+use crate::extension;
 use crate::octets::{Reader, Short, Writer};
 use crate::refusal::Refusal::{self, *};
 
 /// Octets that the fields take.
 pub const LENGTH: usize = 48;
-/// Octets of a packet with an authenticator.
-pub const LENGTH_WITH_AUTHENTICATOR: usize = LENGTH + 20;
 
 #[derive(Clone, Copy, PartialEq, Eq, Debug, Default)]
 pub struct Fields {
@@ -26,8 +25,7 @@ pub struct Fields {
 }
 
 pub fn read(packet: &[u8]) -> Result<Fields, Refusal> {
-    let right = [LENGTH, LENGTH_WITH_AUTHENTICATOR].contains(&packet.len());
-    PacketLengthWrong.when(!right)?;
+    extension::tail(packet)?;
     read_fields(packet).map_err(|Short| PacketLengthWrong)
 }
 
@@ -94,7 +92,7 @@ mod tests {
     fn lengths() {
         for n in 0..=80 {
             let packet = vec![0x23; n];
-            let refused = (n != 48 && n != 68).then_some(PacketLengthWrong);
+            let refused = (![48, 52, 68, 72].contains(&n)).then_some(PacketLengthWrong);
             assert_eq!(read(&packet).err(), refused);
             let mut buffer = vec![0; n];
             let refused = (n < 48).then_some(BufferTooShort);

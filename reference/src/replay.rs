@@ -2,9 +2,10 @@
 
 use crate::arrival::{Told, arrival};
 use crate::client::{Client, FRESH, Token, ask, give_up};
+use crate::extension;
 use crate::hex_lines::answer_lines;
 use crate::octets::{Reader, Short};
-use crate::packet::{LENGTH, LENGTH_WITH_AUTHENTICATOR};
+use crate::packet::LENGTH;
 use crate::refusal::Refusal::{self, *};
 use std::io::{self, Read, Write};
 
@@ -19,7 +20,7 @@ pub const VERSION: u8 = 4;
 const ALTERNATE: bool = false;
 /// Octets before a packet: operation, uptime, clock.
 pub const BEFORE_PACKET: usize = 1 + 8 + 8;
-pub const LONGEST_PACKET: usize = LENGTH_WITH_AUTHENTICATOR;
+pub const LONGEST_PACKET: usize = extension::LONGEST;
 
 enum Frame<'a> {
     Ask { uptime: u64, clock: u64, token: Token },

@@ -261,7 +261,7 @@ fn malformed_lists() {
     let ask = |n| one(&format!("0E000000{n}04FFFFFFFA00000000{TOKEN}0000000000000007"));
     assert_eq!((ask("50").len(), ask("51").as_str()), (4 + 160, "40"));
     let arrival = |length: usize| one(&format!("0F000000{}", "00".repeat(8 + length)));
-    assert_eq!((arrival(80).len(), arrival(81).as_str()), (50, "40"));
+    assert_eq!((arrival(1040).len(), arrival(1041).as_str()), (50, "40"));
 }
 
 #[test]
@@ -341,8 +341,97 @@ fn malformed_broadcasts() {
     assert_eq!(broadcast("0100EC", "0404", zero, ""), "40");
     assert_eq!(broadcast("0100EC", "0404", zero, "3000"), "40");
     let arrival = |octets: usize| one(&format!("12{}", "00".repeat(octets)));
-    let answers = [7, 8, 88, 89].map(arrival);
-    assert_eq!(answers, ["40", "07", "07", "40"]);
+    let answers = [7, 8, 88, 1048, 1049].map(arrival);
+    assert_eq!(answers, ["40", "07", "07", "07", "40"]);
+}
+
+/// An extension field of so many octets.
+fn field(octets: usize) -> String {
+    format!("0104{octets:04X}{}", "AB".repeat(octets - 4))
+}
+
+#[test]
+fn extension_fields_read() {
+    let read = |tail: &str| one(&format!("13{REPLY}{tail}"));
+    let fields = |count: &str, octets: &[usize]| {
+        let fields = octets.iter().map(|o| format!("0104{:04X}{}", o - 4, "AB".repeat(o - 4)));
+        format!("00{count}{}", fields.collect::<String>())
+    };
+    assert_eq!(read(""), "0000");
+    assert_eq!(read(&"AB".repeat(20)), "0000");
+    assert_eq!(read(&field(20)), "0000");
+    assert_eq!(read(&field(28)), fields("01", &[28]));
+    assert_eq!(read(&(field(16) + &field(28) + "00000000")), fields("02", &[16, 28]));
+    let many = field(16).repeat(59) + &field(32);
+    assert_eq!(read(&many), fields("3C", &[&[16; 59][..], &[32]].concat()));
+    assert_eq!(read(&field(980)), "07");
+    for broken in [field(16), field(28) + "00", field(28).replace("001C", "001D")] {
+        assert_eq!(read(&broken), "07");
+    }
+    assert_eq!(one("13"), "07");
+}
+
+#[test]
+fn packets_with_extension_fields() {
+    for (tail, legal) in [(field(28), true), (field(28).replace("001C", "000C"), false)] {
+        let packet = format!("{REPLY}{tail}");
+        let numbers = [
+            one(&format!("03{packet}"))[..2].to_string(),
+            one(&format!("09{WAITING}FFFFFFFBC000000000{packet}"))[..4].to_string(),
+            one(&format!("0F010000{WAITING}FFFFFFFBC0000000{packet}"))[..4].to_string(),
+            one(&format!("12FFFFFFFBC0000000{}", packet.replacen("24", "25", 1)))[..2].to_string(),
+            one(&format!("0B00{}23{}{tail}", "00".repeat(30) + "30", "00".repeat(47)))[..2]
+                .to_string(),
+        ];
+        let legal_numbers = ["00", "0100", "0100", "00", "00"];
+        let wanted = if legal { legal_numbers } else { ["07", "0007", "0007", "07", "07"] };
+        assert_eq!(numbers, wanted);
+    }
+}
+
+/// The answer to an addition: buffer length, packet length, body and first octets.
+fn added(buffer: u16, packet: u16, body: &str, first: &str) -> String {
+    let length = body.len() / 2;
+    one(&format!("14{buffer:04X}{packet:04X}0204{length:04X}{body}{first}"))
+}
+
+/// The octets of a buffer that are not given, from one place to another.
+fn filled(places: std::ops::Range<usize>) -> String {
+    places.map(|place| format!("{:02X}", (0x5A + place) % 256)).collect()
+}
+
+#[test]
+fn extension_fields_added() {
+    let zeros = |count: usize| "00".repeat(count);
+    let field = format!("0204001CAABB{}", zeros(22));
+    assert_eq!(added(76, 48, "AABB", REPLY), format!("00004C{REPLY}{field}"));
+    assert_eq!(added(80, 48, "AABB", REPLY), format!("00004C{REPLY}{field}{}", filled(76..80)));
+    let first = format!("{REPLY}{}", "77".repeat(32));
+    assert_eq!(added(80, 48, "AABB", &first), format!("00004C{REPLY}{field}77777777"));
+    assert_eq!(added(75, 48, "AABB", REPLY), format!("2C0000{REPLY}{}", filled(48..75)));
+    assert_eq!(added(47, 48, "AABB", ""), format!("070000{}", filled(0..47)));
+    assert_eq!(added(0, 0, "", ""), "070000");
+    assert_eq!(added(0, 0xFFFF, "", ""), "070000");
+    assert_eq!(added(76, 48, "", ""), format!("00004C{}0204001C{}", filled(0..48), zeros(24)));
+    let long = "AB".repeat(972);
+    assert!(added(1100, 48, &long, REPLY).starts_with(&format!("000400{REPLY}020403D0ABAB")));
+    assert!(added(1100, 48, &"AB".repeat(973), REPLY).starts_with("2C0000"));
+    assert_eq!(added(1100, 48, &"AB".repeat(1100), REPLY).len(), 6 + 2200);
+    let authenticated = format!("{REPLY}{}", zeros(4));
+    assert!(added(100, 52, "", &authenticated).starts_with("2C0000"));
+    assert!(added(100, 51, "", &authenticated).starts_with("070000"));
+}
+
+#[test]
+fn malformed_additions() {
+    assert_eq!(added(1101, 48, "AABB", ""), "40");
+    assert_eq!(added(48, 48, &"AB".repeat(1101), ""), "40");
+    assert_eq!(added(47, 48, "", REPLY), "40");
+    assert_eq!(added(48, 48, "", &format!("{REPLY}00")), "40");
+    assert!(added(48, 48, "", REPLY).starts_with("2C0000"));
+    for line in ["14", "1400", "14003000300204", "14003000300204FF", "140030003002040001"] {
+        assert_eq!(one(line), "40", "{line}");
+    }
 }
 
 #[test]
@@ -355,12 +444,14 @@ fn malformed_by_their_characters() {
 
 #[test]
 fn malformed_by_their_operation_or_length() {
-    for line in ["00", "13", "F3", "F000", "0100", "0C", "0D", "0E", "0F", "10", "11", "12"] {
+    for line in ["00", "1E", "F3", "F000", "0100", "0C", "0D", "0E", "0F", "10", "11", "12"] {
         assert_eq!(one(line), "40", "{line:?}");
     }
     assert_eq!(one("03"), "07");
-    assert_eq!(one(&format!("03{}", "00".repeat(80))), "07");
-    assert_eq!(one(&format!("03{}", "00".repeat(81))), "40");
+    for operation in ["03", "13"] {
+        assert_eq!(one(&format!("{operation}{}", "00".repeat(1040))), "07");
+        assert_eq!(one(&format!("{operation}{}", "00".repeat(1041))), "40");
+    }
 }
 
 #[test]

@@ -75,6 +75,18 @@ fn broadcasts_that_are_missing_are_found() {
 }
 
 #[test]
+fn tails_that_are_missing_are_found() {
+    let long = missing_without_lines(|line| line.starts_with("03") && line.len() > 2 + 2048);
+    for row in ["03 7-long", "03 7-1025", "03 length-1040"] {
+        assert!(long.contains(&row.to_string()), "{long:?}");
+    }
+    let without_additions = missing_without("14");
+    for row in ["14 44", "-- 64-n-addition", "-- 64-length-14-short", "-- 64-body"] {
+        assert!(without_additions.contains(&row.to_string()), "{without_additions:?}");
+    }
+}
+
+#[test]
 fn differences_that_are_missing_are_found() {
     assert_eq!(missing_without("01"), ["01 00", "01 no-order"]);
 }
@@ -125,7 +137,7 @@ fn replays_that_miss_a_kiss_row_are_found() {
     let without_deny = |answers: String| answers.replace("E044454E59", "E044454E58");
     assert_eq!(missing_in_replay(1, without_deny), ["A2 kiss-06"]);
     let without_kisses = |answers: String| answers.replace("E0", "09");
-    assert_eq!(missing_in_replay(2, without_kisses).len(), 15);
+    assert_eq!(missing_in_replay(2, without_kisses).len(), 16);
 }
 
 #[test]
@@ -137,7 +149,7 @@ fn replays_that_miss_a_zero_token_are_found() {
 #[test]
 fn replays_that_miss_no_order_are_found() {
     let without = |answers: String| answers.replace("2B\n", "13\n");
-    assert_eq!(missing_in_replay(1, without), ["A2 43"]);
+    assert_eq!(missing_in_replay(1, without), ["A2 43", "A2 with-fields-43"]);
 }
 
 /// What counting one line and one answer says.

@@ -76,15 +76,34 @@ fn malformed_lines() {
 
 #[test]
 fn packet_lengths() {
-    for n in 0..=80 {
+    for n in 0..=1040 {
         let line = format!("A2{}{}\n", "00".repeat(16), "00".repeat(n));
         let wanted = match n {
-            48 | 68 => "08\n",
-            0..=68 => "07\n",
+            48 | 52 | 68 | 72 => "08\n",
+            0..=1024 => "07\n",
             _ => "40\n",
         };
         assert_eq!(replay(line.as_bytes()), wanted);
     }
+}
+
+#[test]
+fn extension_fields() {
+    let frames: Vec<&str> = CASE.lines().collect();
+    let measured = ANSWERS.lines().nth(1).unwrap();
+    let field = |octets: usize| format!("0104{octets:04X}{}", "AB".repeat(octets - 4));
+    let answer = |tail: &str| {
+        let input = format!("{}\n{}{tail}\n", frames[0], frames[1]);
+        replay(input.as_bytes()).lines().nth(1).unwrap().to_string()
+    };
+    for tail in [field(28), field(976), field(16) + &field(28), field(972) + "01020304"] {
+        assert_eq!(answer(&tail), measured, "{tail}");
+    }
+    assert_eq!(answer(&field(16)), "07");
+    assert_eq!(answer(&field(28).replace("001C", "000C")), "07");
+    assert_eq!(answer(&field(28).replace("001C", "0020")), "07");
+    assert_eq!(answer(&(field(972) + "010203")), "07");
+    assert_eq!(answer(&(field(976) + "01")), "40");
 }
 
 #[test]

@@ -2,6 +2,7 @@
 
 use super::broadcast_call::BroadcastCall;
 use super::call::{AskArguments, Call, LONGEST, put_numbers};
+use super::extension_answer::put_extension_answer;
 use super::list_call::{ListCall, RecordCall};
 use super::records::{put_client, put_date, put_fields};
 use crate::arrival::{Arrived, Told, arrival};
@@ -45,6 +46,7 @@ pub fn put_answer(call: &Call, out: &mut Vec<u8>) {
         Call::Tick { debt, limit } => put_tick(debt, limit, out),
         Call::OfList(ref call) => put_list_answer(call, out),
         Call::OfBroadcast(ref call) => put_broadcast_answer(call, out),
+        Call::OfExtension(ref call) => put_extension_answer(call, out),
         Call::Fresh => put_next(&FRESH, Ok(FRESH), out),
         Call::Constants => put_constants(out),
         Call::Halve { first, second } => put_halves(first.into(), second.into(), out),
@@ -74,7 +76,11 @@ fn put_constants(out: &mut Vec<u8>) {
 }
 
 /// The number, and if it is 00 what `put` makes of the value.
-fn put_result<T>(result: Result<T, Refusal>, out: &mut Vec<u8>, put: impl FnOnce(T, &mut Vec<u8>)) {
+pub fn put_result<T>(
+    result: Result<T, Refusal>,
+    out: &mut Vec<u8>,
+    put: impl FnOnce(T, &mut Vec<u8>),
+) {
     out.push(number_of(&result));
     if let Ok(value) = result {
         put(value, out);

@@ -1,7 +1,8 @@
 //! A conformance line as a call with its arguments: read from the line's octets, and written.
 
 use super::broadcast_call::BroadcastCall;
-use super::list_call::{LARGEST_COUNT, ListCall, list_length, record_at};
+use super::extension_call::{self, BEFORE_BODY, ExtensionCall, LONGEST_ADDITION};
+use super::list_call::{ListCall, list_length};
 use super::records::*;
 use crate::calendar::Date;
 use crate::client::{Client, Token};
@@ -9,10 +10,12 @@ use crate::octets::{Reader, Short};
 use crate::packet::Fields;
 use crate::server::Settings;
 
-/// Octets of the longest packet and of the longest buffer.
+/// Octets of the longest buffer, but that of an addition.
 pub const LONGEST: u8 = 80;
-/// Octets of the longest line, an arrival of the longest packet for a record of the longest list.
-pub const LONGEST_LINE: usize = record_at(LARGEST_COUNT as usize) + 8 + LONGEST as usize;
+/// Octets of the longest packet.
+pub const LONGEST_PACKET: usize = 1040;
+/// Octets of the longest line, an addition of the longest body to the longest buffer.
+pub const LONGEST_LINE: usize = 1 + BEFORE_BODY + 2 * LONGEST_ADDITION as usize;
 
 /// Places in a line of octets that not every value fits: of a client's record, of the alternate in
 /// an arrival, of the buffer's length n, and of the server's settings.
@@ -42,6 +45,7 @@ pub enum Call<'a> {
     Tick { debt: i64, limit: u64 },
     OfList(ListCall<'a>),
     OfBroadcast(BroadcastCall<'a>),
+    OfExtension(ExtensionCall<'a>),
     Fresh,
     Constants,
     Halve { first: i64, second: i64 },
@@ -83,6 +87,7 @@ pub enum Malformed {
     Phase,
     Flag,
     BufferLength,
+    BodyLength,
     Count,
 }
 
@@ -92,9 +97,10 @@ impl From<Short> for Malformed {
     }
 }
 
-/// Shortest and longest rest of a line after its operation, which for a list goes by its count.
+/// Shortest and longest rest of a line after its operation. That of a list goes by its count, that
+/// of an addition by the lengths it gives.
 pub fn lengths(operation: u8, rest: &[u8]) -> Result<(usize, usize), Malformed> {
-    let longest = usize::from(LONGEST);
+    let longest = LONGEST_PACKET;
     let after_list =
         |least: usize, most: usize| list_length(rest).map(|list| (list + least, list + most));
     Ok(match operation {
@@ -116,6 +122,7 @@ pub fn lengths(operation: u8, rest: &[u8]) -> Result<(usize, usize), Malformed> 
         0x10 => after_list(8, 8)?,
         0x11 => (26, 26),
         0x12 => (8, 8 + longest),
+        0x13 | 0x14 => extension_call::lengths(operation, rest)?,
         0xF0 | 0xF1 => (0, 0),
         0xF2 => (16, 16),
         _ => return Err(Malformed::Operation),
@@ -169,6 +176,7 @@ fn read_call<'a>(operation: u8, octets: &mut Reader<'a>) -> Result<Call<'a>, Mal
         0x0D => Call::Tick { debt: octets.i64()?, limit: octets.u64()? },
         0x0E..=0x10 => Call::OfList(ListCall::read(operation, octets)?),
         0x11 | 0x12 => Call::OfBroadcast(BroadcastCall::read(operation, octets)?),
+        0x13 | 0x14 => Call::OfExtension(ExtensionCall::read(operation, octets)?),
         0xF0 => Call::Fresh,
         0xF1 => Call::Constants,
         0xF2 => Call::Halve { first: octets.i64()?, second: octets.i64()? },
@@ -203,6 +211,7 @@ impl<'a> Call<'a> {
             Call::Tick { .. } => 0x0D,
             Call::OfList(call) => call.operation(),
             Call::OfBroadcast(call) => call.operation(),
+            Call::OfExtension(call) => call.operation(),
             Call::Fresh => 0xF0,
             Call::Constants => 0xF1,
             Call::Halve { .. } => 0xF2,
@@ -244,6 +253,7 @@ impl<'a> Call<'a> {
             Call::Tick { debt, limit } => put_numbers([debt as u64, limit], line),
             Call::OfList(ref call) => call.put(line),
             Call::OfBroadcast(ref call) => call.put(line),
+            Call::OfExtension(ref call) => call.put(line),
             Call::Fresh | Call::Constants => {}
             Call::Halve { first, second } => put_numbers([first as u64, second as u64], line),
         }

@@ -4,15 +4,18 @@ mod arrival;
 mod broadcast;
 mod calendar;
 mod client;
+mod extensions;
 mod ledger;
 mod lists;
 mod plain;
 mod server;
+mod tails;
 mod ticks;
 mod timestamps;
 
 use super::outcome::Outcome;
 use crate::conformance::call::Call;
+use crate::extension::LONGEST;
 use std::collections::BTreeMap;
 use std::fmt::Display;
 
@@ -81,7 +84,7 @@ impl Boundaries {
         match *call {
             Call::Difference { x, y } => timestamps::differences(m, x, y, outcome),
             Call::Measure { t1, t2, t3, t4 } => timestamps::measure(m, [t1, t2, t3, t4], outcome),
-            Call::ReadFields { packet } => plain::read_fields(m, packet.len(), outcome),
+            Call::ReadFields { packet } => plain::read_fields(m, packet, outcome),
             Call::WriteFields { n, ref fields } => plain::write_fields(m, n, fields, outcome),
             Call::DateOfTimestamp { timestamp } => calendar::timestamp(m, timestamp, answer),
             Call::TimestampOfDate { ref date } => calendar::date(m, date, outcome),
@@ -105,9 +108,25 @@ impl Boundaries {
             Call::Tick { debt, limit } => ledger::tick(m, debt, limit, answer, outcome, run),
             Call::OfList(ref call) => lists::list_call(m, call, answer, outcome),
             Call::OfBroadcast(ref call) => broadcast::broadcast_call(m, call, outcome),
+            Call::OfExtension(ref call) => extensions::extension_call(m, call, answer, outcome),
             Call::Halve { first, second } => timestamps::halve(m, first.into(), second.into()),
             Call::Fresh | Call::Constants => {}
         }
+    }
+
+    /// Looks at the packet of a replayed arrival and what came of it.
+    pub fn replayed(
+        &mut self,
+        operation: u8,
+        packet: &[u8],
+        outcomes: impl IntoIterator<Item = Outcome>,
+        outcome: Outcome,
+    ) {
+        let m = self.marks.entry(operation).or_default();
+        m.at = 0;
+        tails::tails(m, packet, LONGEST, outcome);
+        tails::with_fields(m, packet, outcomes, outcome);
+        m.see("with-fields-kiss", outcome.is_kiss() && tails::has_field(packet));
     }
 
     /// Whether a call of the ledger gets the debt of the call before, from debt zero on.

@@ -10,7 +10,7 @@ use crate::kiss::CODES;
 use crate::refusal::Refusal::{self, *};
 
 /// Each number that each call can give, beside 00. Calls for a record of a list have one more.
-const REFUSALS: [(u8, &[Refusal]); 21] = [
+const REFUSALS: [(u8, &[Refusal]); 23] = [
     (DIFFERENCE, &[]),
     (0x02, &MEASURE_REFUSALS),
     (0x03, &[PacketLengthWrong]),
@@ -21,14 +21,16 @@ const REFUSALS: [(u8, &[Refusal]); 21] = [
     (0x08, &ASK_REFUSALS),
     (ARRIVAL, &ARRIVAL_REFUSALS),
     (0x0A, &GIVE_UP_REFUSALS),
-    (0x0B, &REPLY_REFUSALS),
+    (REPLY, &REPLY_REFUSALS),
     (0x0C, &[RecordNotLegal, EntryTooLarge, DebtTooLarge]),
     (0x0D, &[RecordNotLegal, LimitOutOfRange]),
     (0x0E, &ASK_REFUSALS),
     (LIST_ARRIVAL, &ARRIVAL_REFUSALS),
     (0x10, &GIVE_UP_REFUSALS),
     (0x11, &BROADCAST_WRITE_REFUSALS),
-    (0x12, &BROADCAST_ARRIVAL_REFUSALS),
+    (BROADCAST_ARRIVAL, &BROADCAST_ARRIVAL_REFUSALS),
+    (0x13, &[PacketLengthWrong]),
+    (0x14, &[PacketLengthWrong, FieldNotAdded]),
     (0xF0, &[]),
     (0xF1, &[]),
     (0xF2, &[]),
@@ -107,10 +109,10 @@ const BROADCAST_ARRIVAL_REFUSALS: [Refusal; 8] = [
     NoOrder,
 ];
 
-/// All malformed lines and their kinds; by themselves also the wrong lengths of the client's, the
-/// ledger's, the list's, broadcast and halve lines, the wrong flag of an alternate, what is wrong
-/// in a list's records and in a broadcast line, and a list of ten.
-const MALFORMED: [&str; 42] = [
+/// All malformed lines and their kinds; by themselves also the wrong flag of an alternate, what is
+/// wrong in a list's records and in a broadcast line, a list of ten, and what is too long in an
+/// addition.
+const MALFORMED: [&str; 23] = [
     "",
     "-empty",
     "-odd",
@@ -120,28 +122,6 @@ const MALFORMED: [&str; 42] = [
     "-character",
     "-operation",
     "-length",
-    "-length-08-short",
-    "-length-08-long",
-    "-length-09-short",
-    "-length-09-long",
-    "-length-0A-short",
-    "-length-0A-long",
-    "-length-0C-short",
-    "-length-0C-long",
-    "-length-0D-short",
-    "-length-0D-long",
-    "-length-0E-short",
-    "-length-0E-long",
-    "-length-0F-short",
-    "-length-0F-long",
-    "-length-10-short",
-    "-length-10-long",
-    "-length-11-short",
-    "-length-11-long",
-    "-length-12-short",
-    "-length-12-long",
-    "-length-F2-short",
-    "-length-F2-long",
     "-flag",
     "-flag-alternate",
     "-flag-list",
@@ -151,13 +131,25 @@ const MALFORMED: [&str; 42] = [
     "-n",
     "-n-list",
     "-n-broadcast",
+    "-n-addition",
+    "-n-addition-1101",
+    "-body",
     "-count",
     "-count-10",
 ];
 
+/// Operations whose lines can be too short and too long, and those that can be too long alone.
+const SHORT_AND_LONG: [u8; 13] =
+    [0x08, 0x09, 0x0A, 0x0B, 0x0C, 0x0D, 0x0E, 0x0F, 0x10, 0x11, 0x12, 0x14, 0xF2];
+const LONG: [u8; 3] = [0x03, 0x13, 0xF0];
+
 const DIFFERENCE: u8 = 0x01;
 const ARRIVAL: u8 = 0x09;
 const LIST_ARRIVAL: u8 = 0x0F;
+const REPLY: u8 = 0x0B;
+const BROADCAST_ARRIVAL: u8 = 0x12;
+/// The beginning of an addition to a buffer of 1101 octets.
+const ADDITION_OF_1101: [u8; 3] = [0x14, 0x04, 0x4D];
 
 /// Whether a call is for a record of a list.
 fn is_of_list(operation: u8) -> bool {
@@ -186,11 +178,23 @@ pub fn arrival_outcomes() -> impl Iterator<Item = Outcome> {
     outcomes(ARRIVAL, &ARRIVAL_REFUSALS)
 }
 
+pub fn reply_outcomes() -> impl Iterator<Item = Outcome> {
+    outcomes(REPLY, &REPLY_REFUSALS)
+}
+
+pub fn broadcast_arrival_outcomes() -> impl Iterator<Item = Outcome> {
+    outcomes(BROADCAST_ARRIVAL, &BROADCAST_ARRIVAL_REFUSALS)
+}
+
 fn wanted() -> impl Iterator<Item = Row> {
     let calls = REFUSALS.into_iter().flat_map(|(operation, refusals)| {
         outcomes(operation, refusals).map(move |outcome| Row::Call { operation, outcome })
     });
-    calls.chain(MALFORMED.map(|kind| Row::Malformed { kind }))
+    let both = SHORT_AND_LONG
+        .into_iter()
+        .flat_map(|operation| [false, true].map(|long| Row::WrongLength { operation, long }));
+    let long = LONG.map(|operation| Row::WrongLength { operation, long: true });
+    calls.chain(MALFORMED.map(|kind| Row::Malformed { kind })).chain(both).chain(long)
 }
 
 fn outcome(call: &Call, answer: &[u8]) -> Option<Outcome> {
@@ -242,40 +246,17 @@ fn kind_of(malformed: Malformed) -> &'static str {
         Malformed::Phase => "-phase",
         Malformed::Flag => "-flag",
         Malformed::BufferLength => "-n",
+        Malformed::BodyLength => "-body",
         Malformed::Count => "-count",
     }
 }
 
-/// Which wrong length a line of the client, the ledger, a list, broadcast or halving has.
-fn kind_of_length(line: &[u8]) -> Option<&'static str> {
+/// Which wrong length a line has.
+fn wrong_length(line: &[u8]) -> Option<Row> {
     let (&operation, rest) = line.split_first()?;
-    // A list without its count is too short.
+    // A list without its count is too short, and so is an addition without its lengths.
     let long = lengths(operation, rest).is_ok_and(|(_, longest)| rest.len() > longest);
-    match (operation, long) {
-        (0x08, false) => Some("-length-08-short"),
-        (0x08, true) => Some("-length-08-long"),
-        (0x09, false) => Some("-length-09-short"),
-        (0x09, true) => Some("-length-09-long"),
-        (0x0A, false) => Some("-length-0A-short"),
-        (0x0A, true) => Some("-length-0A-long"),
-        (0x0C, false) => Some("-length-0C-short"),
-        (0x0C, true) => Some("-length-0C-long"),
-        (0x0D, false) => Some("-length-0D-short"),
-        (0x0D, true) => Some("-length-0D-long"),
-        (0x0E, false) => Some("-length-0E-short"),
-        (0x0E, true) => Some("-length-0E-long"),
-        (0x0F, false) => Some("-length-0F-short"),
-        (0x0F, true) => Some("-length-0F-long"),
-        (0x10, false) => Some("-length-10-short"),
-        (0x10, true) => Some("-length-10-long"),
-        (0x11, false) => Some("-length-11-short"),
-        (0x11, true) => Some("-length-11-long"),
-        (0x12, false) => Some("-length-12-short"),
-        (0x12, true) => Some("-length-12-long"),
-        (0xF2, false) => Some("-length-F2-short"),
-        (0xF2, true) => Some("-length-F2-long"),
-        _ => None,
-    }
+    Some(Row::WrongLength { operation, long })
 }
 
 /// Whether the alternate's flag is wrong, and the record's flag is not.
@@ -289,13 +270,14 @@ fn further_kind(malformed: Malformed, line: &[u8]) -> Option<&'static str> {
     let of_list = line.first().is_some_and(|&operation| is_of_list(operation));
     let of_broadcast = line.first() == Some(&0x11);
     match malformed {
-        Malformed::Length => kind_of_length(line),
         Malformed::Flag if has_alternate_wrong(line) => Some("-flag-alternate"),
         Malformed::Flag if of_list => Some("-flag-list"),
         Malformed::Flag if of_broadcast => Some("-flag-broadcast"),
         Malformed::Phase if of_list => Some("-phase-list"),
         Malformed::BufferLength if of_list => Some("-n-list"),
         Malformed::BufferLength if of_broadcast => Some("-n-broadcast"),
+        Malformed::BufferLength if line.starts_with(&ADDITION_OF_1101) => Some("-n-addition-1101"),
+        Malformed::BufferLength if line.first() == Some(&0x14) => Some("-n-addition"),
         Malformed::Count if line.get(COUNT_AT) == Some(&(LARGEST_COUNT + 1)) => Some("-count-10"),
         _ => None,
     }
@@ -309,7 +291,10 @@ fn take_malformed(counter: &mut Counter, pair: &Pair) -> Option<()> {
         Some(line) => {
             let malformed = Call::parse(line).err()?;
             add(kind_of(malformed));
-            further_kind(malformed, line).into_iter().for_each(add);
+            further_kind(malformed, line).into_iter().for_each(&mut add);
+            if malformed == Malformed::Length {
+                wrong_length(line).into_iter().for_each(|row| counter.add(row));
+            }
         }
     }
     Some(())

@@ -1,14 +1,15 @@
 //! Calls of broadcast, and broadcast packets for a unicast client.
 
-use super::packets::{alter, make_length_wrong, octets_of, put_authenticator};
+use super::packets::{alter, octets_of};
 use super::plain_calls::{any_fields, buffer_length};
 use super::records::record;
 use super::server_calls::settings;
+use super::tails::{make_illegal, put_tail};
 use super::timestamps::{around, nonzero_timestamp, timestamp};
 use crate::broadcast;
 use crate::client::Phase;
 use crate::conformance::broadcast_call::BroadcastCall;
-use crate::conformance::call::{Call, LONGEST};
+use crate::conformance::call::{Call, LONGEST_PACKET};
 use crate::packet::{Fields, LENGTH};
 use crate::random::Random;
 use crate::refusal::Refusal::*;
@@ -103,12 +104,12 @@ pub fn arrival(r: &mut Random, line: &mut Vec<u8>) {
     }
     let t4 = if r.one_in(12) { 0 } else { arrived(r, fields.transmit) };
     let mut packet = if r.one_in(6) { written_any(r) } else { octets_of(&fields) };
-    if r.one_in(5) {
-        put_authenticator(r, &mut packet);
+    if r.one_in(4) {
+        put_tail(r, &mut packet);
     }
     alter(r, 48, &mut packet);
     if r.one_in(10) {
-        make_length_wrong(r, LONGEST.into(), &mut packet);
+        make_illegal(r, LONGEST_PACKET, &mut packet);
     }
     Call::OfBroadcast(BroadcastCall::Arrival { t4, packet: &packet }).put(line);
 }

@@ -2,15 +2,16 @@
 //! which serve the calls for a record of a list too.
 
 use super::faults::{Fault, add_fault};
-use super::packets::{alter, make_length_wrong, octets_of, put_authenticator};
+use super::packets::{alter, octets_of};
 use super::plain_calls::buffer_length;
 use super::records::{legal_record, record};
 use super::replies::good_reply;
 use super::server_calls::legal_settings;
+use super::tails::{make_illegal, put_tail};
 use super::ticks::{Ticks, exchange};
 use super::timestamps::{nonzero_token, timestamp, uptime};
 use crate::client::{Client, Phase, Token, request_fields};
-use crate::conformance::call::{AskArguments, Call, LONGEST};
+use crate::conformance::call::{AskArguments, Call, LONGEST_PACKET};
 use crate::random::Random;
 use crate::refusal::Refusal::*;
 use crate::server::reply_fields;
@@ -115,19 +116,19 @@ fn reply_of_ticking_clocks(r: &mut Random) -> (Client, u64, Vec<u8>) {
 /// An arrival's T4 and packet.
 fn reply_with_faults(r: &mut Random, client: &Client) -> (u64, Vec<u8>) {
     let mut reply = good_reply(r, client);
-    let mut length_wrong = false;
+    let mut illegal = false;
     for _ in 0..r.pick([0, 0, 1, 1, 1, 1, 1, 2, 2, 3]) {
         let fault = r.pick(FAULTS);
-        length_wrong |= fault == Fault::By(PacketLengthWrong);
+        illegal |= fault == Fault::By(PacketLengthWrong);
         add_fault(r, fault, client, &mut reply);
     }
     let mut packet = octets_of(&reply.fields);
-    if r.one_in(5) {
-        put_authenticator(r, &mut packet);
+    if r.one_in(4) {
+        put_tail(r, &mut packet);
     }
     alter(r, 24, &mut packet);
-    if length_wrong {
-        make_length_wrong(r, LONGEST.into(), &mut packet);
+    if illegal {
+        make_illegal(r, LONGEST_PACKET, &mut packet);
     }
     (reply.t4, packet)
 }

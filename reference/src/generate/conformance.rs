@@ -1,8 +1,8 @@
 //! Conformance lines: fixed ones first, then random ones, mostly calls and mostly near a limit.
 
 use super::text::put_drawn;
-use super::{broadcast_calls, calendar_calls, client_calls, ledger_calls, list_calls};
-use super::{fixed, malformed, plain_calls, server_calls, write_lines};
+use super::{broadcast_calls, calendar_calls, client_calls, extension_calls, ledger_calls};
+use super::{fixed, list_calls, malformed, plain_calls, server_calls, write_lines};
 use crate::conformance::call::Call;
 use crate::random::Random;
 use std::io::{self, Write};
@@ -12,7 +12,7 @@ const RARE: u64 = 50;
 
 /// Appends the octets of one call.
 pub fn put_call(r: &mut Random, line: &mut Vec<u8>) {
-    match r.below(148) {
+    match r.below(160) {
         0..=2 => plain_calls::difference(r, line),
         3..=12 => plain_calls::measure(r, line),
         13..=16 => plain_calls::read_fields(r, line),
@@ -34,7 +34,9 @@ pub fn put_call(r: &mut Random, line: &mut Vec<u8>) {
         128..=131 => list_calls::give_up(r, line),
         132..=138 => broadcast_calls::write(r, line),
         139..=146 => broadcast_calls::arrival(r, line),
-        _ => broadcast_calls::arrival_at_unicast_client(r, line),
+        147 => broadcast_calls::arrival_at_unicast_client(r, line),
+        148..=152 => extension_calls::read(r, line),
+        _ => extension_calls::add(r, line),
     }
 }
 

@@ -1,6 +1,7 @@
 //! The fixed lines that every conformance stream begins with: the figures of the rules, each
 //! length, each kiss row, both sides of each limit, and each kind of malformed line.
 
+mod additions;
 mod broadcasts;
 mod calendar;
 mod clients;
@@ -8,6 +9,7 @@ mod exchanges;
 mod ledger;
 mod lists;
 mod malformed;
+mod tails;
 mod ticks;
 mod timestamps;
 
@@ -62,6 +64,8 @@ pub fn lines() -> Vec<Vec<u8>> {
     clients::put_lines(&mut lines);
     lists::put_lines(&mut lines);
     broadcasts::put_lines(&mut lines);
+    tails::put_lines(&mut lines);
+    additions::put_lines(&mut lines);
     ledger::put_lines(&mut lines);
     malformed::put_lines(&mut lines);
     lines.0
@@ -72,6 +76,6 @@ mod tests {
     #[test]
     fn there_are_enough() {
         let count = super::lines().len();
-        assert!((15_700..16_700).contains(&count), "{count}");
+        assert!((22_400..23_400).contains(&count), "{count}");
     }
 }

@@ -3,12 +3,14 @@
 use super::broadcast_calls;
 use super::client_calls::{arrival, ask, give_up};
 use super::conformance::put_call;
+use super::extension_calls;
 use super::list_calls;
 use super::packets::put_any;
 use super::plain_calls::write_fields;
 use super::server_calls::reply;
 use crate::conformance::broadcast_call::N_OF_BROADCAST_AT;
 use crate::conformance::call::*;
+use crate::conformance::extension_call::{BODY_LENGTH_AT, BUFFER_LENGTH_AT, LONGEST_ADDITION};
 use crate::conformance::list_call::{COUNT_AT, LARGEST_COUNT, record_at};
 use crate::conformance::records::{ASKED_AFTER_PHASE, TOKEN_AFTER_PHASE};
 use crate::random::Random;
@@ -61,13 +63,14 @@ fn lengthen(r: &mut Random, line: &mut Vec<u8>) {
     put_any(r, add, line);
 }
 
-/// A line that ends before its packet begins.
+/// A line that ends before its packet begins, or within the body of an addition.
 fn cut_before_packet(r: &mut Random, line: &mut Vec<u8>) {
     line.clear();
-    match r.below(4) {
+    match r.below(5) {
         0 => arrival(r, line),
         1 => list_calls::arrival(r, line),
         2 => broadcast_calls::arrival(r, line),
+        3 => extension_calls::add(r, line),
         _ => reply(r, line),
     }
     let (shortest, _) = line_lengths(line);
@@ -221,9 +224,19 @@ fn make_buffer_long(r: &mut Random, line: &mut Vec<u8>) {
     set_from(r, at, LONGEST + 1, line);
 }
 
+/// An addition to a buffer, or of a body, that is too long.
+fn make_addition_long(r: &mut Random, line: &mut Vec<u8>) {
+    line.clear();
+    extension_calls::add(r, line);
+    let at = r.pick([BUFFER_LENGTH_AT, BODY_LENGTH_AT]);
+    let least = LONGEST_ADDITION + 1;
+    let length = if r.one_in(2) { least } else { least + r.below(64_000) as u16 };
+    line.splice(at..at + 2, length.to_be_bytes());
+}
+
 /// Makes a call's octets malformed, or puts other ones in their place that are.
 pub fn make_malformed(r: &mut Random, line: &mut Vec<u8>) {
-    match r.below(10) {
+    match r.below(11) {
         0 => {
             let operation = unlisted(r);
             if let Some(first) = line.first_mut() {
@@ -236,6 +249,7 @@ pub fn make_malformed(r: &mut Random, line: &mut Vec<u8>) {
         4 | 5 => make_flag_wrong(r, line),
         6 => make_count_large(r, line),
         7 => make_tokens_missing(r, line),
+        8 => make_addition_long(r, line),
         _ => make_buffer_long(r, line),
     }
 }

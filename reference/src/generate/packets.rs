@@ -1,7 +1,7 @@
-//! The octets of packets: of right and of wrong lengths, with and without an authenticator.
+//! The first 48 octets of packets.
 
 use crate::kiss::CODES;
-use crate::packet::{self, Fields, LENGTH, LENGTH_WITH_AUTHENTICATOR};
+use crate::packet::{self, Fields, LENGTH};
 use crate::random::Random;
 
 /// Fields as 48 octets; larger values are cut to their bits.
@@ -25,34 +25,6 @@ pub fn put_any(r: &mut Random, count: usize, out: &mut Vec<u8>) {
         out.extend(r.number().to_be_bytes());
     }
     out.truncate(end);
-}
-
-pub fn put_authenticator(r: &mut Random, packet: &mut Vec<u8>) {
-    match r.below(4) {
-        0 => packet.extend([0; 20]),
-        1 => packet.extend([255; 20]),
-        _ => put_any(r, 20, packet),
-    }
-}
-
-/// Cuts or lengthens a packet to a wrong length.
-pub fn make_length_wrong(r: &mut Random, longest: usize, packet: &mut Vec<u8>) {
-    let length = wrong_length(r, longest);
-    let more = length.saturating_sub(packet.len());
-    packet.truncate(length);
-    put_any(r, more, packet);
-}
-
-fn wrong_length(r: &mut Random, longest: usize) -> usize {
-    loop {
-        let length = match r.below(3) {
-            0 => r.pick([0, 1, 47, 49, 67, 69]),
-            _ => r.below(longest as u64 + 1) as usize,
-        };
-        if length != LENGTH && length != LENGTH_WITH_AUTHENTICATOR && length <= longest {
-            return length;
-        }
-    }
 }
 
 /// Changes a packet on its way: one bit, one octet, or all of it, each once in so many.

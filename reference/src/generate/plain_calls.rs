@@ -1,12 +1,13 @@
 //! Calls on timestamps, packet fields and ticks.
 
 use super::faults::{Fault, add_fault};
-use super::packets::{identifier, make_length_wrong, octets_of, put_any, put_authenticator};
+use super::packets::{identifier, octets_of, put_any};
 use super::replies::good_reply;
+use super::tails::{make_illegal, put_tail};
 use super::ticks::{Ticks, exchange};
 use super::timestamps::{around, timestamp};
 use crate::client::{Client, FRESH};
-use crate::conformance::call::{Call, LONGEST};
+use crate::conformance::call::{Call, LONGEST, LONGEST_PACKET};
 use crate::packet::{Fields, LENGTH};
 use crate::random::Random;
 use crate::refusal::Refusal::*;
@@ -108,8 +109,8 @@ pub fn read_fields(r: &mut Random, line: &mut Vec<u8>) {
         packet = octets_of(&any_fields(r));
     }
     match r.below(4) {
-        0 => put_authenticator(r, &mut packet),
-        1 => make_length_wrong(r, LONGEST.into(), &mut packet),
+        0 => put_tail(r, &mut packet),
+        1 => make_illegal(r, LONGEST_PACKET, &mut packet),
         _ => {}
     }
     Call::ReadFields { packet: &packet }.put(line);

@@ -1,8 +1,9 @@
 //! A replay stream: one client with a long life.
 
 use super::faults::{Fault, add_fault};
-use super::packets::{make_length_wrong, octets_of, put_any, put_authenticator};
+use super::packets::{octets_of, put_any};
 use super::replies::good_reply;
+use super::tails::{make_illegal, put_tail};
 use super::text::put_drawn;
 use super::timestamps::{nonzero_timestamp, today};
 use super::write_lines;
@@ -109,11 +110,11 @@ impl Gateway {
         let uptime = if r.one_in(8) { r.number() } else { self.uptime };
         put_frame(ARRIVAL, uptime, reply.t4, line);
         let mut packet = octets_of(&reply.fields);
-        if r.one_in(6) {
-            put_authenticator(r, &mut packet);
+        if r.one_in(4) {
+            put_tail(r, &mut packet);
         }
         if faults.contains(&Fault::By(PacketLengthWrong)) {
-            make_length_wrong(r, LONGEST_PACKET, &mut packet);
+            make_illegal(r, LONGEST_PACKET, &mut packet);
         }
         line.extend(packet);
     }
@@ -250,7 +251,7 @@ impl Gateway {
             4 | 5 => {
                 // A packet that is too long, though a true reply.
                 self.arrival(r, &[], line);
-                let length = r.pick([69, 70, 80, 88, 300]);
+                let length = r.pick([1025, 1026, 1028, 1040, 1100]);
                 put_any(r, BEFORE_PACKET + length - line.len(), line);
             }
             _ => {

@@ -1,9 +1,10 @@
 //! Calls of the server.
 
-use super::packets::{identifier, make_length_wrong, octets_of, put_authenticator};
+use super::packets::{identifier, octets_of};
 use super::plain_calls::{any_fields, buffer_length};
+use super::tails::{make_illegal, put_tail};
 use super::timestamps::{around, timestamp};
-use crate::conformance::call::{Call, LONGEST};
+use crate::conformance::call::{Call, LONGEST_PACKET};
 use crate::packet::Fields;
 use crate::random::Random;
 use crate::server::Settings;
@@ -74,8 +75,8 @@ pub fn reply(r: &mut Random, line: &mut Vec<u8>) {
     let n = if r.one_in(2) { 48 } else { buffer_length(r) };
     let mut request = octets_of(&request(r));
     match r.below(16) {
-        0 | 1 => make_length_wrong(r, LONGEST.into(), &mut request),
-        2..=4 => put_authenticator(r, &mut request),
+        0 | 1 => make_illegal(r, LONGEST_PACKET, &mut request),
+        2..=5 => put_tail(r, &mut request),
         _ => {}
     }
     Call::Reply { settings, t2, t3, n, request: &request }.put(line);

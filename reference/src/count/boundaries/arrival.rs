@@ -2,8 +2,10 @@
 
 use super::Marks;
 use super::client::records;
+use super::tails::{tails, with_fields};
 use super::timestamps::{exchange, is_negative};
 use crate::client::{Client, Phase, Token};
+use crate::conformance::call::LONGEST_PACKET;
 use crate::count::conformance::arrival_outcomes;
 use crate::count::outcome::Outcome;
 use crate::packet::{self, Fields, LENGTH};
@@ -28,6 +30,8 @@ pub fn arrival(
     let fields = fields_of(packet);
     records(m, "", client, outcome);
     lengths(m, packet.len(), outcome);
+    tails(m, packet, LONGEST_PACKET, outcome);
+    with_fields(m, packet, arrival_outcomes(), outcome);
     m.see("7-before-8", outcome.by(PacketLengthWrong) && client.phase != Phase::Waiting);
     m.see("8-idle", outcome.by(NotWaiting) && client.phase == Phase::Idle);
     m.see("8-stopped", outcome.by(NotWaiting) && client.phase == Phase::Stopped);

@@ -3,9 +3,13 @@
 use super::Marks;
 use super::arrival::fields_of;
 use super::server::settings_by_name;
+use super::tails::{tails, with_fields};
 use super::timestamps::{is_negative, is_positive};
 use crate::conformance::broadcast_call::BroadcastCall;
+use crate::conformance::call::LONGEST_PACKET;
+use crate::count::conformance::broadcast_arrival_outcomes;
 use crate::count::outcome::Outcome;
+use crate::extension::tail;
 use crate::packet::{Fields, LENGTH};
 use crate::refusal::Refusal::{self, *};
 use crate::server::Settings;
@@ -25,6 +29,8 @@ pub fn broadcast_call(m: &mut Marks, call: &BroadcastCall, outcome: Outcome) {
         BroadcastCall::Arrival { t4, packet } => {
             let fields = fields_of(packet);
             packet_lengths(m, packet.len(), outcome);
+            tails(m, packet, LONGEST_PACKET, outcome);
+            with_fields(m, packet, broadcast_arrival_outcomes(), outcome);
             first_octets(m, &fields, outcome);
             other_fields(m, &fields, outcome);
             differences(m, fields.transmit, t4, outcome);
@@ -139,7 +145,7 @@ fn differences(m: &mut Marks, t3: u64, t4: u64, outcome: Outcome) {
 fn faults_of_packet(packet: &[u8], fields: &Fields, t4: u64) -> [(Refusal, bool); 8] {
     let whole = packet.len() >= LENGTH;
     [
-        (PacketLengthWrong, ![48, 68].contains(&packet.len())),
+        (PacketLengthWrong, tail(packet).is_err()),
         (BroadcastModeWrong, whole && fields.mode != 5),
         (BroadcastVersionUnsupported, whole && !(1..=4).contains(&fields.version)),
         (BroadcastUnsynchronised, whole && fields.leap == 3),

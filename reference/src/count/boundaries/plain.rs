@@ -1,14 +1,18 @@
 //! The boundaries of calls on packet fields and ticks.
 
 use super::Marks;
+use super::tails::tails;
+use crate::conformance::call::LONGEST_PACKET;
 use crate::count::outcome::Outcome;
 use crate::packet::Fields;
 use crate::refusal::Refusal::*;
 
-pub fn read_fields(m: &mut Marks, length: usize, outcome: Outcome) {
-    m.see_each("length-", 0..=80, |n| length == n);
+pub fn read_fields(m: &mut Marks, packet: &[u8], outcome: Outcome) {
+    let length = packet.len();
+    m.see_each("length-", 0..=LONGEST_PACKET, |n| length == n);
     let refused = outcome.by(PacketLengthWrong);
     m.see_each("refused-length-", [47, 49, 67, 69], |n| refused && length == n);
+    tails(m, packet, LONGEST_PACKET, outcome);
 }
 
 pub fn write_fields(m: &mut Marks, n: u8, fields: &Fields, outcome: Outcome) {

@@ -1,6 +1,9 @@
 //! The boundaries of the server's replies.
 
 use super::Marks;
+use super::tails::{tails, with_fields};
+use crate::conformance::call::LONGEST_PACKET;
+use crate::count::conformance::reply_outcomes;
 use crate::count::outcome::Outcome;
 use crate::octets::Reader;
 use crate::refusal::Refusal::*;
@@ -16,6 +19,8 @@ pub fn reply(
     outcome: Outcome,
 ) {
     lengths(m, n, request, outcome);
+    tails(m, request, LONGEST_PACKET, outcome);
+    with_fields(m, request, reply_outcomes(), outcome);
     requests(m, request, outcome);
     settings_by_name(m, "", settings, outcome, settings.synchronised);
     settings_by_name(m, "off-", settings, outcome, !settings.synchronised);

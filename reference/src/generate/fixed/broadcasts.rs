@@ -1,6 +1,7 @@
 //! Fixed lines of broadcast: the writer, its client, and packets that come to a unicast client.
 
 use super::clients::{self, IDLE, STOPPED, waiting};
+use super::tails::field;
 use super::{Lines, T, pairs};
 use crate::client::FRESH;
 use crate::conformance::broadcast_call::BroadcastCall;
@@ -65,7 +66,7 @@ fn put_faults_of_writer(lines: &mut Lines) {
 }
 
 /// A broadcast packet that passes.
-const GOOD: Fields = Fields {
+pub const GOOD: Fields = Fields {
     leap: 0,
     version: 4,
     mode: 5,
@@ -84,6 +85,12 @@ const GOOD: Fields = Fields {
 fn arrival(lines: &mut Lines, fields: &Fields, t4: u64, length: u8) {
     let mut packet = octets_of(fields);
     packet.resize(length.into(), 0xAB);
+    lines.call(Call::OfBroadcast(BroadcastCall::Arrival { t4, packet: &packet }));
+}
+
+/// The arrival of a packet with a tail.
+pub fn put_arrival(lines: &mut Lines, fields: &Fields, t4: u64, tail: &[u8]) {
+    let packet = [&octets_of(fields), tail].concat();
     lines.call(Call::OfBroadcast(BroadcastCall::Arrival { t4, packet: &packet }));
 }
 
@@ -117,7 +124,7 @@ fn times(transmit_zero: bool, t4_zero: bool, apart: bool) -> (u64, u64) {
     }
 }
 
-/// Every choice of the client's faults, so that their order shows.
+/// Every choice of the client's faults, so that their order shows, also of packets with a field.
 fn put_faults_of_client(lines: &mut Lines) {
     for faults in 0..=255u8 {
         let has = |bit: u8| faults & (1 << bit) != 0;
@@ -131,6 +138,7 @@ fn put_faults_of_client(lines: &mut Lines) {
             ..GOOD
         };
         arrival(lines, &fields, t4, if has(0) { 49 } else { 48 });
+        put_arrival(lines, &fields, t4, &field(28, if has(0) { 32 } else { 28 }));
     }
 }
 

@@ -44,15 +44,18 @@ const SET: Settings = Settings {
     reference: 3 * T,
 };
 
-/// A request of our client, cut or lengthened.
-fn request(length: u8) -> Vec<u8> {
-    let fields = Fields { version: 4, mode: 3, transmit: T, ..Fields::default() };
-    packet(&fields, length, 0xEF)
+/// A request of our client.
+fn request() -> Fields {
+    Fields { version: 4, mode: 3, transmit: T, ..Fields::default() }
 }
 
-fn server_reply(lines: &mut Lines, n: u8, length: u8) {
-    let request = request(length);
-    lines.call(Call::Reply { settings: SET, t2: 5 * T, t3: 6 * T, n, request: &request });
+fn reply_to(lines: &mut Lines, n: u8, request: &[u8]) {
+    lines.call(Call::Reply { settings: SET, t2: 5 * T, t3: 6 * T, n, request });
+}
+
+/// The reply to a request with a tail.
+pub fn server_reply(lines: &mut Lines, n: u8, tail: &[u8]) {
+    reply_to(lines, n, &[&octets_of(&request()), tail].concat());
 }
 
 /// Holds of a server, synchronised and not, with settings that pass and that do not.
@@ -63,7 +66,7 @@ fn put_holds(lines: &mut Lines) {
         &[u64::MAX, 0, 1, half - 1, half, half + 1],
     )
     .collect();
-    let request = request(48);
+    let request = octets_of(&request());
     let set = pairs(&[true, false], &[0, 3]);
     let settings: Vec<Settings> =
         set.map(|(synchronised, leap)| Settings { synchronised, leap, ..SET }).collect();
@@ -81,8 +84,8 @@ fn put_lengths(lines: &mut Lines) {
         lines.call(Call::WriteFields { n, fields: good });
         ask(lines, &FRESH, AskArguments { n, uptime: 7, ..ASK });
         arrival(lines, &waiting(T), T, &good, n);
-        server_reply(lines, n, 48);
-        server_reply(lines, LONGEST, n);
+        server_reply(lines, n, &[]);
+        reply_to(lines, LONGEST, &packet(&request(), n, 0xEF));
     }
 }
 
@@ -103,8 +106,16 @@ fn put_exponents(lines: &mut Lines) {
 
 /// Each test of a packet's own fields and of T4, alone and in pairs, of a reply and of a kiss.
 fn put_faults(lines: &mut Lines) {
+    for (fields, t4) in pairs(&faulty_replies(), &[0, T - 1, T]) {
+        arrival(lines, &waiting(T), t4, &fields, 48);
+        arrival(lines, &waiting(T), t4, &Fields { stratum: 0, ..fields }, 68);
+    }
+}
+
+/// A reply that passes, and with each fault of its own fields.
+pub fn faulty_replies() -> [Fields; 12] {
     let good = reply(T, T);
-    let fields = [
+    [
         good,
         Fields { originate: TOKEN.0 + 1, ..good },
         Fields { originate: T, ..good },
@@ -117,11 +128,7 @@ fn put_faults(lines: &mut Lines) {
         Fields { stratum: 16, receive: 0, ..good },
         Fields { receive: 0, ..good },
         Fields { transmit: 0, ..good },
-    ];
-    for (fields, t4) in pairs(&fields, &[0, T - 1, T]) {
-        arrival(lines, &waiting(T), t4, &fields, 48);
-        arrival(lines, &waiting(T), t4, &Fields { stratum: 0, ..fields }, 68);
-    }
+    ]
 }
 
 /// The token, T1 and others as originate, of a reply and of a kiss; one of the tokens is T1.

@@ -6,14 +6,18 @@ use crate::associations::Associations;
 use crate::client::FRESH;
 use crate::conformance::broadcast_call::{BroadcastCall, N_OF_BROADCAST_AT};
 use crate::conformance::call::*;
+use crate::conformance::extension_call::{
+    Addition, BEFORE_BODY, BODY_LENGTH_AT, BUFFER_LENGTH_AT, ExtensionCall,
+};
 use crate::conformance::list_call::{COUNT_AT, LARGEST_COUNT, ListCall, RecordCall, record_at};
 use crate::conformance::records::{ASKED_AFTER_PHASE, RECORD};
+use crate::extension::Field;
 use crate::generate::malformed::{leave_out_token_of_ask, leave_out_tokens};
 use crate::server::Settings;
 
 /// Texts that are no line of digits, or no operation.
 const TEXTS: [&str; 14] =
-    ["", "F", "F00", "F000", "F3", "00", "0E", "13", "F0\r", "F0 ", " F0", "F0\0", "G0", "0x"];
+    ["", "F", "F00", "F000", "F3", "00", "0E", "1E", "F0\r", "F0 ", " F0", "F0\0", "G0", "0x"];
 
 /// Wrong lengths of one operation's line.
 fn put_lengths(lines: &mut Lines, operation: u8, right: usize) {
@@ -26,7 +30,7 @@ fn put_lengths(lines: &mut Lines, operation: u8, right: usize) {
 
 /// Wrong lengths of a line that ends with a packet, given the octets before that.
 fn put_lengths_with_packet(lines: &mut Lines, operation: u8, before: usize) {
-    let longest = before + usize::from(LONGEST);
+    let longest = before + LONGEST_PACKET;
     for length in [0, 1, before - 1, longest + 1, 2 * longest] {
         lines.octets(&resized(&[operation], 1 + length));
     }
@@ -50,7 +54,7 @@ fn with_octet(call: &Call, at: usize, value: u8) -> Vec<u8> {
 /// An arrival has the longest packet here, so that each of the three is as long as can be.
 const LIST_CALLS: [RecordCall; 3] = [
     RecordCall::Ask(ASK),
-    RecordCall::Arrival { t4: 1, packet: &[0; LONGEST as usize] },
+    RecordCall::Arrival { t4: 1, packet: &[0; LONGEST_PACKET] },
     RecordCall::GiveUp { uptime: 0 },
 ];
 
@@ -155,9 +159,64 @@ fn put_broadcasts(lines: &mut Lines) {
     }
 }
 
+/// An addition of five octets to a packet of 48 in a buffer of 80.
+const ADDITION: Addition = Addition {
+    buffer_length: 80,
+    packet_length: 48,
+    field: Field { kind: 1, body: &[1, 2, 3, 4, 5] },
+    first: &[0; 48],
+};
+
+fn addition_line(addition: Addition) -> Vec<u8> {
+    line_of(&Call::OfExtension(ExtensionCall::Add(addition)))
+}
+
+/// Additions that end within their lengths or within their body, or have more octets than the buffer.
+fn put_addition_lengths(lines: &mut Lines) {
+    let line = addition_line(ADDITION);
+    let right = 1 + BEFORE_BODY + ADDITION.field.body.len();
+    (0..right).for_each(|length| lines.octets(&resized(&line, length)));
+    for buffer_length in [0, 47, 80, 1100] {
+        let line = addition_line(Addition { buffer_length, first: &[], ..ADDITION });
+        let longest = line.len() + usize::from(buffer_length);
+        [longest, longest + 1, longest + 200]
+            .into_iter()
+            .for_each(|length| lines.octets(&resized(&line, length)));
+    }
+}
+
+/// Additions to a buffer, or of a body, of 1100 octets and of more, which may be there or not.
+fn put_long_additions(lines: &mut Lines) {
+    let body = [7; 1100];
+    for length in [1100u16, 1101, 1102, 1104, 0x8000, 0xFFFF] {
+        let [high, low] = length.to_be_bytes();
+        for at in [BUFFER_LENGTH_AT, BODY_LENGTH_AT] {
+            let field = Field { body: &body, ..ADDITION.field };
+            for (addition, extra) in pairs(&[ADDITION, Addition { field, ..ADDITION }], &[0, 1, 4])
+            {
+                let mut line = addition_line(addition);
+                line.splice(at..at + 2, [high, low]);
+                line.resize(line.len() + extra, 0);
+                lines.octets(&line);
+            }
+        }
+    }
+}
+
+/// Lines of packets, and additions, with a wrong length.
+fn put_packets(lines: &mut Lines) {
+    for (operation, length) in pairs(&[0x03, 0x13], &[LONGEST_PACKET, LONGEST_PACKET + 1, 2000]) {
+        lines.octets(&resized(&[operation], 1 + length));
+    }
+    put_lengths_with_packet(lines, 0x09, 37);
+    put_lengths_with_packet(lines, 0x0B, 32);
+    put_addition_lengths(lines);
+    put_long_additions(lines);
+}
+
 pub fn put_lines(lines: &mut Lines) {
     put_lengths(lines, 0x08, 54);
-    put_lengths_with_packet(lines, 0x09, 37);
+    put_packets(lines);
     put_lengths(lines, 0x0A, 36);
     put_lengths(lines, 0x0C, 17);
     put_lengths(lines, 0x0D, 16);
