@@ -3,7 +3,7 @@ use conformance_associations::MOST_RECORDS;
 use conformance_associations::RECORD;
 use conformance_associations::RECORDS;
 
-pub(crate) const LONGEST_PACKET: usize = 80;
+pub(crate) const LONGEST_PACKET: usize = 1040;
 
 pub(crate) const LONGEST_LENT: usize = 80;
 
