@@ -3,7 +3,6 @@ use crate::lengths::LONGEST_LENT;
 use crate::lengths::LONGEST_LINE;
 use crate::lengths::LONGEST_PACKET;
 use crate::lent;
-use crate::operations::is_list;
 use conformance_associations::MOST_RECORDS;
 use conformance_associations::RECORD;
 use conformance_associations::RECORDS;
@@ -67,17 +66,12 @@ fn has_legal_values(operation: u8, line: &[u8]) -> bool {
     }
 }
 
-fn records_length(operation: u8, line: &[u8]) -> usize {
-    if is_list(operation) {
-        RECORD * (count(line) as usize)
-    } else {
-        0
-    }
-}
-
 fn has_length(operation: u8, line: &[u8]) -> bool {
     let head = head_length(operation);
-    let records = records_length(operation, line);
+    let mut records = 0;
+    if (0x0E <= operation) & (operation <= 0x10) {
+        records = RECORD * (count(line) as usize);
+    }
     if line.len() < records {
         return false;
     }

@@ -3,7 +3,6 @@
 mod forms;
 mod lengths;
 mod lent;
-mod operations;
 mod output;
 
 use conformance_parts::record_numbers;
@@ -42,24 +41,16 @@ fn put_numbers(out: &mut [u8], at: usize, operation: u8, line: &[u8], buffer: &m
     put_line(out, end, buffer)
 }
 
+// Puts the answer to a line into the output, and answers where the next one goes. That of the client's operations has a record, that for a record of a list the
+// list's records.
 fn put_answer(out: &mut [u8], at: usize, operation: u8, line: &[u8], buffer: &mut [u8]) -> usize {
-    if operations::is_list(operation) {
+    if (0x0E <= operation) & (operation <= 0x10) {
         return put_list(out, at, operation, line, buffer);
     }
-    if operations::is_client(operation) {
+    if ((0x08 <= operation) & (operation <= 0x0A)) | (operation == 0xF0) {
         return put_client(out, at, operation, line, buffer);
     }
     put_numbers(out, at, operation, line, buffer)
-}
-
-// Puts the answer to a line into the output, and answers where the next one goes.
-fn answer_line(out: &mut [u8], at: usize, operation: u8, line: &[u8]) -> usize {
-    let n = lent::length(operation, line);
-    let mut buffer = lent::filled();
-    if LONGEST_LENT < n {
-        return at;
-    }
-    put_answer(out, at, operation, line, &mut buffer[0..n])
 }
 
 fn end_line(out: &mut [u8], at: usize, line: Line, octets: &[u8]) -> usize {
@@ -68,8 +59,14 @@ fn end_line(out: &mut [u8], at: usize, line: Line, octets: &[u8]) -> usize {
         return at;
     }
     let part = &octets[0..count];
+    let operation = forms::operation(line.is_complete(), part);
+    let n = lent::length(operation, part);
+    let mut buffer = lent::filled();
+    if LONGEST_LENT < n {
+        return at;
+    }
     let start = output::place(out, at);
-    answer_line(out, start, forms::operation(line.is_complete(), part), part)
+    put_answer(out, start, operation, part, &mut buffer[0..n])
 }
 
 // Answers the lines that these characters end, and hands back the line that they do not end.

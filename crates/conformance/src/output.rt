@@ -19,19 +19,15 @@ pub(crate) fn flush(out: &[u8], at: usize) {
     }
 }
 
-// Puts octets over the line feed at an index, and answers the index of the next line feed.
-pub(crate) fn put(out: &mut [u8], at: usize, octets: &[u8]) -> usize {
-    let end = put_line(out, at, octets);
-    if end == 0 { 0 } else { end - 1 }
-}
-
+// Puts a number of so many octets over the line feed at an index, and answers the index of the next line feed.
 fn put_number(out: &mut [u8], at: usize, width: usize, value: u64) -> usize {
     let mut octets = [0u8; 8];
     write_be64(&mut octets, 0, value);
     if 8 < width {
         return at;
     }
-    put(out, at, &octets[8 - width..])
+    let end = put_line(out, at, &octets[8 - width..]);
+    if end == 0 { 0 } else { end - 1 }
 }
 
 pub(crate) fn put_numbers(out: &mut [u8], at: usize, numbers: Numbers) -> usize {
