@@ -1,5 +1,5 @@
-//! The tail of a packet, its extension fields, and the writer of one: docs/RULES.md, "Extension
-//! fields".
+//! The tail of a packet, its extension fields, and the writer of one: docs/RULES.md,
+//! "Extension fields".
 
 use crate::octets::Reader;
 use crate::packet::LENGTH;

@@ -13,7 +13,7 @@ use Rattle.association_rules.specs.declared.ListArrived.{ListArrived}
 use Rattle.association_rules.specs.Associations.{askedFor, listAfterAsk, bufferAfterAsk, arrivedFor, listAfterArrival, gaveUpFor, listAfterGiveUp}
 use Rattle.conformance_parts.specs.Input.{octetAt, timestampAt, tokenAt, recordIn}
 use Rattle.conformance_parts.specs.Numbers.{Number, _wide_, packed}
-use Rattle.conformance_clients.specs.Clients.{callNumber, arrivalValues, arrivalNumbers}
+use Rattle.conformance_clients.specs.Clients.{callNumber, arrivalNumbers}
 use Rattle.conformance_associations.specs.declared.ListAnswer.{ListAnswer}
 
 -- ---- the list of a line
@@ -56,7 +56,7 @@ abbrev pub calledAnswer : ListCalled → List Client → ListAnswer
 calledAnswer x records = record { numbers = packed (calledNumbers x); records = records }
 
 abbrev pub arrivedNumbers : ListArrived → List Number
-arrivedNumbers x = arrivalNumbers (arrivalValues (x .answer)) ++ (1 wide x .«in_use» ∷ [])
+arrivedNumbers x = arrivalNumbers (x .answer) ++ (1 wide x .«in_use» ∷ [])
 
 abbrev pub arrivedAnswer : ListArrived → List Client → ListAnswer
 arrivedAnswer x records = record { numbers = packed (arrivedNumbers x); records = records }

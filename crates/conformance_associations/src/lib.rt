@@ -10,7 +10,7 @@ use association_rules::ListCalled;
 use associations_by_value::ArrivedByValue;
 use associations_by_value::CalledByValue;
 use client::Client;
-use conformance_clients::arrival_values;
+use conformance_clients::arrival_numbers;
 use conformance_clients::call_number;
 use conformance_parts::Numbers;
 use conformance_parts::numbered;
@@ -117,29 +117,15 @@ fn called(next: CalledByValue) -> ListAnswer
     ListAnswer { numbers, records }
 }
 
+// What an arrival gave is seven numbers; the number in use is the eighth.
 fn arrived_numbers(result: ListArrived) -> Numbers
     ensures { λ r. ⌜ r ≡ packed (arrivedNumbers result) ⌝ }
 {
     let answer = result.answer;
-    let in_use = result.in_use as u64;
-    let values = arrival_values(answer);
-    [
-        0x1148_1811,
-        values.kind as u64,
-        values.number as u64,
-        values.offset,
-        values.half as u64,
-        values.delay,
-        values.code as u64,
-        values.row as u64,
-        in_use,
-        0,
-        0,
-        0,
-        0,
-        0,
-        0,
-    ]
+    let mut numbers = arrival_numbers(answer);
+    numbers[0] = 0x1148_1811;
+    numbers[8] = result.in_use as u64;
+    numbers
 }
 
 fn arrived(next: ArrivedByValue) -> ListAnswer

@@ -33,16 +33,19 @@ arrivalValues (ArrivalAnswer.Accepted offset half delay) =
     record { kind = 1; number = 0; offset = bits 64 offset; half = half; delay = bits 64 delay; code = 0; row = 0 }
 arrivalValues (ArrivalAnswer.Kiss code row) = record { kind = 2; number = 0; offset = 0; half = 0; delay = 0; code = code; row = row }
 
-abbrev pub arrivalNumbers : ArrivalValues → List Number
-arrivalNumbers t =
+abbrev pub valueNumbers : ArrivalValues → List Number
+valueNumbers t =
     1 wide t .kind ∷ 1 wide t .number ∷ 8 wide t .offset ∷ 1 wide t .half ∷ 8 wide t .delay ∷ 4 wide t .code ∷ 1 wide t .row ∷ []
+
+abbrev pub arrivalNumbers : ArrivalAnswer → List Number
+arrivalNumbers x = valueNumbers (arrivalValues x)
 
 -- the numbers, and the record after them
 abbrev pub calledAnswer : Called → ClientAnswer
 calledAnswer x = record { numbers = packed (1 wide callNumber (x .answer) ∷ []); client = x .client }
 
 abbrev pub arrivedAnswer : Arrived → ClientAnswer
-arrivedAnswer x = record { numbers = packed (arrivalNumbers (arrivalValues (x .answer))); client = x .client }
+arrivedAnswer x = record { numbers = packed (arrivalNumbers (x .answer)); client = x .client }
 
 -- ---- the operations
 

@@ -2,7 +2,7 @@
 ghost use mathlib.Core.Path.{_≡_};
 ghost use lib.ListN.{length};
 ghost use Rattle.conformance_parts.specs.Numbers.{packed};
-ghost use Rattle.conformance_clients.specs.Clients.{callNumber, arrivalValues, arrivalNumbers, calledAnswer, arrivedAnswer, askIn, askedIn, arrivalIn, giveUpIn, freshAnswer, answerTo, bufferAfter};
+ghost use Rattle.conformance_clients.specs.Clients.{callNumber, arrivalValues, valueNumbers, arrivalNumbers, calledAnswer, arrivedAnswer, askIn, askedIn, arrivalIn, giveUpIn, freshAnswer, answerTo, bufferAfter};
 use client::Arrived;
 use client::CallAnswer;
 use client::Called;
@@ -45,7 +45,7 @@ pub fn call_number(answer: CallAnswer) -> u8
     }
 }
 
-pub fn arrival_values(answer: ArrivalAnswer) -> ArrivalValues
+fn arrival_values(answer: ArrivalAnswer) -> ArrivalValues
     ensures { λ r. ⌜ r ≡ arrivalValues answer ⌝ }
 {
     match answer {
@@ -83,8 +83,8 @@ pub fn arrival_values(answer: ArrivalAnswer) -> ArrivalValues
     }
 }
 
-fn arrival_numbers(values: ArrivalValues) -> Numbers
-    ensures { λ r. ⌜ r ≡ packed (arrivalNumbers values) ⌝ }
+fn value_numbers(values: ArrivalValues) -> Numbers
+    ensures { λ r. ⌜ r ≡ packed (valueNumbers values) ⌝ }
 {
     [
         0x148_1811,
@@ -105,6 +105,13 @@ fn arrival_numbers(values: ArrivalValues) -> Numbers
     ]
 }
 
+// The numbers of what an arrival gave.
+pub fn arrival_numbers(answer: ArrivalAnswer) -> Numbers
+    ensures { λ r. ⌜ r ≡ packed (arrivalNumbers answer) ⌝ }
+{
+    value_numbers(arrival_values(answer))
+}
+
 fn called_answer(called: Called) -> ClientAnswer
     ensures { λ r. ⌜ r ≡ calledAnswer called ⌝ }
 {
@@ -119,7 +126,7 @@ fn arrived_answer(arrived: Arrived) -> ClientAnswer
 {
     let answer = arrived.answer;
     let client = arrived.client;
-    let numbers = arrival_numbers(arrival_values(answer));
+    let numbers = arrival_numbers(answer);
     ClientAnswer { numbers, client }
 }
 

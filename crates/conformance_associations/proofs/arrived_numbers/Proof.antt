@@ -4,8 +4,8 @@ use Rattle.conformance_associations.proofs.arrived_numbers.Statement.{s
 use Rattle.conformance_associations.proofs.arrived_numbers.Tie as tie
 
 returns : tie.Need-returns
-returns c = rw (c .before .before .before .before .before .arrival-values .ensures)
+returns c = rw (c .arrival-numbers .ensures)
 
 pub arrived-numbers-spec : {M : Type 1} → statement M
 arrived-numbers-spec =
-    tie.close (tie.spec (λ c κs. search needs) (λ c. search needs) (λ c. search needs) (λ c. search needs) (λ c. search needs) (λ c. search needs) returns)
+    tie.close (tie.spec (λ c κs. search needs) (λ c. search needs) (λ c. search needs) returns)

@@ -4,7 +4,7 @@ use Rattle.conformance_clients.proofs.arrived_answer.Statement.{stateme
 use Rattle.conformance_clients.proofs.arrived_answer.Tie as tie
 
 returns : tie.Need-returns
-returns c = rw (c .arrival-numbers .ensures, c .before .arrival-values .ensures)
+returns c = rw (c .arrival-numbers .ensures)
 
 pub arrived-answer-spec : {M : Type 1} → statement M
-arrived-answer-spec = tie.close (tie.spec (λ c κs. search needs) (λ c κs. search needs) returns)
+arrived-answer-spec = tie.close (tie.spec (λ c κs. search needs) returns)
