@@ -1,7 +1,6 @@
 // The buffer that is lent to a call.
 use crate::lengths::LONGEST_LENT;
-use conformance_associations::RECORD;
-use conformance_associations::after_list;
+use crate::lengths::RECORD;
 use slices::octet_or_zero;
 
 // How many octets a line asks to be lent.
@@ -10,7 +9,6 @@ pub(crate) fn length(operation: u8, line: &[u8]) -> usize {
         0x04 => octet_or_zero(line, 1),
         0x08 => octet_or_zero(line, 1 + RECORD),
         0x0B => octet_or_zero(line, 32),
-        0x0E => octet_or_zero(after_list(line), 0),
         0x11 => octet_or_zero(line, 26),
         _ => 0,
     };

@@ -12,20 +12,6 @@ use lengths::LONGEST_LENT;
 use lengths::LONGEST_LINE;
 use libc::STDIN_FILENO;
 
-fn put_list(out: &mut [u8], at: usize, operation: u8, line: &[u8], buffer: &mut [u8]) -> usize {
-    let answer = conformance_associations::answer(operation, line, buffer);
-    let numbers = answer.numbers;
-    let records = answer.records;
-    let middle = output::put_numbers(out, at, numbers);
-    let end = output::put_records(
-        out,
-        middle,
-        records,
-        conformance_associations::count(line) as usize,
-    );
-    put_line(out, end, buffer)
-}
-
 fn put_client(out: &mut [u8], at: usize, operation: u8, line: &[u8], buffer: &mut [u8]) -> usize {
     let answer = conformance_clients::answer(operation, line, buffer);
     let numbers = answer.numbers;
@@ -41,12 +27,8 @@ fn put_numbers(out: &mut [u8], at: usize, operation: u8, line: &[u8], buffer: &m
     put_line(out, end, buffer)
 }
 
-// Puts the answer to a line into the output, and answers where the next one goes. That of the client's operations has a record, that for a record of a list the
-// list's records.
+// Puts the answer to a line into the output, and answers where the next one goes. That of the client's operations has a record.
 fn put_answer(out: &mut [u8], at: usize, operation: u8, line: &[u8], buffer: &mut [u8]) -> usize {
-    if (0x0E <= operation) & (operation <= 0x10) {
-        return put_list(out, at, operation, line, buffer);
-    }
     if ((0x08 <= operation) & (operation <= 0x0A)) | (operation == 0xF0) {
         return put_client(out, at, operation, line, buffer);
     }

@@ -1,10 +1,7 @@
 // Answers as lines of hexadecimal in the output, which is written out when it is nearly full. An index is that of the line feed that ends what stands there.
 use crate::lengths::LONGEST_ANSWER;
-use client::Client;
-use conformance_associations::MOST_RECORDS;
 use conformance_parts::MOST;
 use conformance_parts::Numbers;
-use conformance_parts::record_numbers;
 use hex_encode::put_line;
 use libc::STDOUT_FILENO;
 use slices::write_be64;
@@ -38,22 +35,6 @@ pub(crate) fn put_numbers(out: &mut [u8], at: usize, numbers: Numbers) -> usize 
         end = put_number(out, end, (widths % 16) as usize, numbers[i]);
         widths /= 16;
         i += 1;
-    }
-    end
-}
-
-pub(crate) fn put_records(
-    out: &mut [u8],
-    at: usize,
-    records: [Client; MOST_RECORDS],
-    count: usize,
-) -> usize {
-    let mut end = at;
-    if MOST_RECORDS < count {
-        return end;
-    }
-    for i in 0..count {
-        end = put_numbers(out, end, record_numbers(records[i]));
     }
     end
 }

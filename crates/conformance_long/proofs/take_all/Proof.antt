@@ -1,11 +1,11 @@
--- `conformance_extension::take_all` is safe and ends: each turn takes a line feed or the last character. Assumes nothing.
+-- `conformance_long::take_all` is safe and ends: each turn takes a line feed or the last character. Assumes nothing.
 use Prim.Native.Nat.{_-_}
 use mathlib.Core.Path.{_≡_}
 use lib.ListN.{length}
 use borrow.Author.Needs.{needs}
 use Rattle.hex_decode.proofs.ToLineFeed.{not-back}
-use Rattle.conformance_extension.proofs.take_all.Statement.{statement}
-use Rattle.conformance_extension.proofs.take_all.Tie as tie
+use Rattle.conformance_long.proofs.take_all.Statement.{statement}
+use Rattle.conformance_long.proofs.take_all.Tie as tie
 
 abbrev Inv-loop : tie.InvT-loop
 Inv-loop characters octets₀ out₀ line₀ at₀ i₀ octets out line at i = (length octets ≡ length octets₀) × (length out ≡ length out₀)

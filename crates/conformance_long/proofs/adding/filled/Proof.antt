@@ -1,8 +1,8 @@
--- `conformance_extension::adding::filled` is safe and ends: the index stays within the buffer. Assumes nothing.
+-- `conformance_long::adding::filled` is safe and ends: the index stays within the buffer. Assumes nothing.
 use Prim.Native.Nat.{_≤_, _-_}
 use borrow.Author.Needs.{needs}
-use Rattle.conformance_extension.proofs.adding.filled.Statement.{statement}
-use Rattle.conformance_extension.proofs.adding.filled.Tie as tie
+use Rattle.conformance_long.proofs.adding.filled.Statement.{statement}
+use Rattle.conformance_long.proofs.adding.filled.Tie as tie
 
 abbrev Inv-loop : tie.InvT-loop
 Inv-loop octets buffer₀ i₀ buffer i = i ≤ 1100

@@ -1,9 +1,9 @@
--- `conformance_extension::read_all` is safe and ends: the measure is the number of turns that are left. Assumes nothing.
+-- `conformance_long::read_all` is safe and ends: the measure is the number of turns that are left. Assumes nothing.
 use mathlib.Core.Path.{_≡_}
 use lib.ListN.{length}
 use borrow.Author.Needs.{needs}
-use Rattle.conformance_extension.proofs.read_all.Statement.{statement}
-use Rattle.conformance_extension.proofs.read_all.Tie as tie
+use Rattle.conformance_long.proofs.read_all.Statement.{statement}
+use Rattle.conformance_long.proofs.read_all.Tie as tie
 
 abbrev Inv-loop : tie.InvT-loop
 Inv-loop block₀ octets₀ out₀ line₀ turns₀ block octets out line turns = (length block ≡ length block₀) × (length octets ≡ length octets₀) × (length out ≡ length out₀)

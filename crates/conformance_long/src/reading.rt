@@ -10,7 +10,7 @@ use extension::BeginAnswer;
 use extension::Cursor;
 use extension::NextAnswer;
 
-const LONGEST_PACKET: usize = 1040;
+pub(crate) const LONGEST_PACKET: usize = 1040;
 
 fn store_field(answer: &mut Answer, at: usize, field_type: u16, body: &[u8]) -> usize {
     let after_type = store_be16(answer, at, field_type as usize);

@@ -1,11 +1,11 @@
--- `conformance_extension::answer::store_octets` is safe and ends: the index stays within the octets. Assumes nothing.
+-- `conformance_long::answer::store_octets` is safe and ends: the index stays within the octets. Assumes nothing.
 use Prim.Native.Nat.{_≤_, _-_}
 use lib.ListN.{length}
 use native.Mathlib.Omega.{arith}
 use borrow.Author.Tests.{ltb-true}
 use borrow.Author.Needs.{needs}
-use Rattle.conformance_extension.proofs.answer.store_octets.Statement.{statement}
-use Rattle.conformance_extension.proofs.answer.store_octets.Tie as tie
+use Rattle.conformance_long.proofs.answer.store_octets.Statement.{statement}
+use Rattle.conformance_long.proofs.answer.store_octets.Tie as tie
 
 abbrev Inv-loop : tie.InvT-loop
 Inv-loop answer₀ at octets end₀ i₀ answer end i = i ≤ length octets

@@ -13,11 +13,11 @@ const LONGEST_BODY: usize = 1100;
 // The octets of a line before the body: operation, buffer length, packet length, field type and body length.
 const HEAD: usize = 9;
 
-// No line of operation 13 is as long.
+// No line of another operation is as long.
 pub(crate) const LONGEST_LINE: usize = HEAD + LONGEST_BODY + LONGEST_BUFFER;
 
 // A buffer that begins with these octets; past them octet i is 5A + i in hexadecimal.
-fn filled(octets: &[u8]) -> [u8; LONGEST_BUFFER] {
+pub(crate) fn filled(octets: &[u8]) -> [u8; LONGEST_BUFFER] {
     let mut buffer = [0u8; LONGEST_BUFFER];
     for i in 0..LONGEST_BUFFER {
         if i < octets.len() {

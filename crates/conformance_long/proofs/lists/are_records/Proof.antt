@@ -1,8 +1,8 @@
--- `conformance::forms::are_records` is safe and ends: the index stays below the count. Assumes nothing.
+-- `conformance_long::lists::are_records` is safe and ends: the index stays below the count. Assumes nothing.
 use Prim.Native.Nat.{_≤_, _-_}
 use borrow.Author.Needs.{needs}
-use Rattle.conformance.proofs.forms.are_records.Statement.{statement}
-use Rattle.conformance.proofs.forms.are_records.Tie as tie
+use Rattle.conformance_long.proofs.lists.are_records.Statement.{statement}
+use Rattle.conformance_long.proofs.lists.are_records.Tie as tie
 
 abbrev Inv-loop : tie.InvT-loop
 Inv-loop line count i₀ i = (i ≤ count) × (count ≤ 9)
@@ -16,11 +16,14 @@ returns c = search needs
 loop-holds : tie.Need-loop-holds Inv-loop μ-loop
 loop-holds c = search needs
 
-mul-is-record : tie.Need-mul-is-record Inv-loop μ-loop
-mul-is-record c = search needs
+mul-from-index : tie.Need-mul-from-index Inv-loop μ-loop
+mul-from-index c = search needs
 
-add-is-record : tie.Need-add-is-record Inv-loop μ-loop
-add-is-record c = search needs
+add-from-index : tie.Need-add-from-index Inv-loop μ-loop
+add-from-index c = search needs
+
+from-index-requires : tie.Need-from-index-requires Inv-loop μ-loop
+from-index-requires c κs = search needs
 
 is-record-requires : tie.Need-is-record-requires Inv-loop μ-loop
 is-record-requires c κs = search needs
@@ -48,8 +51,9 @@ are-records-spec =
     μ-loop
     returns
     loop-holds
-    mul-is-record
-    add-is-record
+    mul-from-index
+    add-from-index
+    from-index-requires
     is-record-requires
     returns-2
     add-i

@@ -1,12 +1,12 @@
--- `conformance_extension::reading::store_fields` is safe and ends: a field has at least 16 octets and lies in the packet. Assumes nothing.
+-- `conformance_long::reading::store_fields` is safe and ends: a field has at least 16 octets and lies in the packet. Assumes nothing.
 use Prim.Native.Nat.{_≤_, _*_, _-_}
 use mathlib.Core.Path.{sym, _∙_}
 use native.Mathlib.Omega.{arith}
 use lib.ListN.{length}
 use borrow.Author.Needs.{needs}
 use Rattle.extension.proofs.Walks.{reader-laws}
-use Rattle.conformance_extension.proofs.reading.store_fields.Statement.{statement}
-use Rattle.conformance_extension.proofs.reading.store_fields.Tie as tie
+use Rattle.conformance_long.proofs.reading.store_fields.Statement.{statement}
+use Rattle.conformance_long.proofs.reading.store_fields.Tie as tie
 
 abbrev Inv-loop : tie.InvT-loop
 Inv-loop answer₀ packet cursor₀ after₀ count₀ answer cursor after count = 16 * count ≤ cursor .at

@@ -1,6 +1,9 @@
 // The octets of an answer, stored one part behind another.
 use crate::adding::LONGEST_BUFFER;
+use conformance_parts::MOST;
+use conformance_parts::Numbers;
 use refusals::LINE_MALFORMED;
+use slices::write_be64;
 
 // Operation 14 has the longest: the call's number, the packet's new length and the buffer.
 pub(crate) const LONGEST_ANSWER: usize = 3 + LONGEST_BUFFER;
@@ -24,6 +27,28 @@ pub(crate) fn store_octets(answer: &mut Answer, at: usize, octets: &[u8]) -> usi
 pub(crate) fn store_be16(answer: &mut Answer, at: usize, x: usize) -> usize {
     let octets = [(x / 256 % 256) as u8, (x % 256) as u8];
     store_octets(answer, at, &octets)
+}
+
+// Stores a number of so many octets.
+fn store_number(answer: &mut Answer, at: usize, width: usize, value: u64) -> usize {
+    let mut octets = [0u8; 8];
+    write_be64(&mut octets, 0, value);
+    if 8 < width {
+        return at;
+    }
+    store_octets(answer, at, &octets[8 - width..])
+}
+
+pub(crate) fn store_numbers(answer: &mut Answer, at: usize, numbers: Numbers) -> usize {
+    let mut widths = numbers[0];
+    let mut end = at;
+    let mut i = 1;
+    while i <= MOST && 0 < widths {
+        end = store_number(answer, end, (widths % 16) as usize, numbers[i]);
+        widths /= 16;
+        i += 1;
+    }
+    end
 }
 
 // Stores an answer that is a call's number alone.
