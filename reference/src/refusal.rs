@@ -48,6 +48,7 @@ pub enum Refusal {
     TokenZero = 42,
     NoOrder = 43,
     FieldNotAdded = 44,
+    TimeLengthWrong = 45,
     LineMalformed = 64,
 }
 
@@ -99,6 +100,7 @@ const ALL: [Refusal; 45] = [
     TokenZero,
     NoOrder,
     FieldNotAdded,
+    TimeLengthWrong,
     LineMalformed,
 ];
 
@@ -153,7 +155,7 @@ mod tests {
     #[test]
     fn numbers_there_and_back() {
         for number in 0..=255 {
-            let known = (1..=44).contains(&number) || number == 64;
+            let known = (1..=45).contains(&number) || number == 64;
             let back = Refusal::of_number(number).map(Refusal::number);
             assert_eq!(back, known.then_some(number));
         }
