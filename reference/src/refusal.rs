@@ -55,7 +55,7 @@ pub enum Refusal {
 use Refusal::*;
 
 /// All refusals, in the order of their numbers.
-const ALL: [Refusal; 45] = [
+const ALL: [Refusal; 46] = [
     BufferTooShort,
     VersionUnsupported,
     OwnClockZero,
