@@ -11,9 +11,9 @@ use lib.Signed.{_<ℤ_}
 use Rattle.timestamp.specs.declared.Timestamp.{Timestamp}
 use Rattle.timestamp.specs.Timestamp.{timestamp, fromSeconds, secondsOf, fractionOf, isZero}
 use Rattle.ordered_tests.specs.Tests.{_if_else_, otherwise, answer}
-use Rattle.arithmetic.proofs.Integers.{integers, sum, minus, size-is}
+use Rattle.arithmetic.proofs.Integers.{integers, sum, minus}
 use Rattle.refusals.specs.Numbers.{timestamp-zero, no-such-date, outside-window}
-use Rattle.calendar.specs.Calendar.{windowStart, windowEnd, secondsAt, eraSeconds}
+use Rattle.calendar.specs.Calendar.{secondsAt, eraSeconds}
 use Rattle.calendar.specs.Dates.{date, secondsTo}
 use Rattle.calendar.specs.OneToOne.{HasDate}
 use Rattle.calendar.specs.declared.Date.{Date}
@@ -25,7 +25,7 @@ use Rattle.unix_time.specs.UnixTime.{start1970, unixSecond, nanosecondsO
 use Rattle.unix_time.specs.Laws.{HasUnixTime, HasTimestamp, BarelyBefore, NotLater, NotLaterUnix, Laws}
 use Rattle.unix_time.specs.declared.UnixTime.{UnixTime}
 use Rattle.unix_time.specs.declared.UnixTimeAnswer.{UnixTimeAnswer}
-use Rattle.unix_time.proofs.Seconds.{start-1970, inside-has, inside-yes}
+use Rattle.unix_time.proofs.Seconds.{inside-has, inside-yes}
 use Rattle.unix_time.proofs.Fractions.{fraction-fits, nanoseconds-back, nanoseconds-fit, fraction-not-later, fraction-near, fraction-none, nanoseconds-mono}
 
 -- ---- what the answers are like

@@ -5,17 +5,25 @@ use Rattle.conformance_associations.proofs.arrival.Tie as tie
 
 returns : tie.Need-returns
 returns c =
+    let arrival = c .before in
+    let timestamp = arrival .before in
+    let from-index = timestamp .before in
+    let in-use = from-index .before in
+    let number = in-use .before in
+    let count = number .before in
+    let records = count .before in
+    let after-list = records .before in
     rw (
       c .arrived .ensures,
-      c .before .arrival .ensures .0,
-      c .before .arrival .ensures .1,
-      c .before .before .timestamp .ensures,
-      c .before .before .before .from-index .ensures,
-      c .before .before .before .before .in-use .ensures,
-      c .before .before .before .before .before .number .ensures,
-      c .before .before .before .before .before .before .count .ensures,
-      c .before .before .before .before .before .before .before .records .ensures,
-      c .before .before .before .before .before .before .before .before .after-list .ensures,
+      arrival .arrival .ensures .0,
+      arrival .arrival .ensures .1,
+      timestamp .timestamp .ensures,
+      from-index .from-index .ensures,
+      in-use .in-use .ensures,
+      number .number .ensures,
+      count .count .ensures,
+      records .records .ensures,
+      after-list .after-list .ensures,
     )
 
 pub arrival-spec : {M : Type 1} → statement M

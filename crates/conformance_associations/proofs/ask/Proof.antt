@@ -4,34 +4,44 @@ use Rattle.conformance_associations.proofs.ask.Statement.{statement}
 use Rattle.conformance_associations.proofs.ask.Tie as tie
 
 returns : tie.Need-returns
-returns c = (
-  rw (
-    c .called .ensures,
-    c .before .before .before .ask .ensures .0 .0,
-    c .before .before .before .ask .ensures .0 .1,
-    c .before .before .before .before .read-be64 .ensures,
-    c .before .before .before .before .before .token .ensures,
-    c .before .before .before .before .before .before .timestamp .ensures,
-    c .before .before .before .before .before .before .before .octet-or-zero .ensures,
-    c .before .before .before .before .before .before .before .before .before .in-use .ensures,
-    c .before .before .before .before .before .before .before .before .before .before .number .ensures,
-    c .before .before .before .before .before .before .before .before .before .before .before .count .ensures,
-    c .before .before .before .before .before .before .before .before .before .before .before .before .records .ensures,
-    c .before .before .before .before .before .before .before .before .before .before .before .before .before .after-list .ensures,
-  ),
-  rw (
-    c .before .before .before .ask .ensures .1,
-    c .before .before .before .before .read-be64 .ensures,
-    c .before .before .before .before .before .token .ensures,
-    c .before .before .before .before .before .before .timestamp .ensures,
-    c .before .before .before .before .before .before .before .octet-or-zero .ensures,
-    c .before .before .before .before .before .before .before .before .before .in-use .ensures,
-    c .before .before .before .before .before .before .before .before .before .before .number .ensures,
-    c .before .before .before .before .before .before .before .before .before .before .before .count .ensures,
-    c .before .before .before .before .before .before .before .before .before .before .before .before .records .ensures,
-    c .before .before .before .before .before .before .before .before .before .before .before .before .before .after-list .ensures,
-  ),
-)
+returns c =
+    let ask = c .before .before .before in
+    let read-be64 = ask .before in
+    let token = read-be64 .before in
+    let timestamp = token .before in
+    let octet-or-zero = timestamp .before in
+    let in-use = octet-or-zero .before .before in
+    let number = in-use .before in
+    let count = number .before in
+    let records = count .before in
+    let after-list = records .before in (
+      rw (
+        c .called .ensures,
+        ask .ask .ensures .0 .0,
+        ask .ask .ensures .0 .1,
+        read-be64 .read-be64 .ensures,
+        token .token .ensures,
+        timestamp .timestamp .ensures,
+        octet-or-zero .octet-or-zero .ensures,
+        in-use .in-use .ensures,
+        number .number .ensures,
+        count .count .ensures,
+        records .records .ensures,
+        after-list .after-list .ensures,
+      ),
+      rw (
+        ask .ask .ensures .1,
+        read-be64 .read-be64 .ensures,
+        token .token .ensures,
+        timestamp .timestamp .ensures,
+        octet-or-zero .octet-or-zero .ensures,
+        in-use .in-use .ensures,
+        number .number .ensures,
+        count .count .ensures,
+        records .records .ensures,
+        after-list .after-list .ensures,
+      ),
+    )
 
 pub ask-spec : {M : Type 1} → statement M
 ask-spec =

@@ -5,16 +5,23 @@ use Rattle.conformance_associations.proofs.give_up.Tie as tie
 
 returns : tie.Need-returns
 returns c =
+    let give-up = c .before in
+    let read-be64 = give-up .before in
+    let after-list = read-be64 .before in
+    let in-use = after-list .before in
+    let number = in-use .before in
+    let count = number .before in
+    let records = count .before in
     rw (
       c .called .ensures,
-      c .before .give-up .ensures .0,
-      c .before .give-up .ensures .1,
-      c .before .before .read-be64 .ensures,
-      c .before .before .before .after-list .ensures,
-      c .before .before .before .before .in-use .ensures,
-      c .before .before .before .before .before .number .ensures,
-      c .before .before .before .before .before .before .count .ensures,
-      c .before .before .before .before .before .before .before .records .ensures,
+      give-up .give-up .ensures .0,
+      give-up .give-up .ensures .1,
+      read-be64 .read-be64 .ensures,
+      after-list .after-list .ensures,
+      in-use .in-use .ensures,
+      number .number .ensures,
+      count .count .ensures,
+      records .records .ensures,
     )
 
 pub give-up-spec : {M : Type 1} → statement M

@@ -7,16 +7,24 @@ use Rattle.conformance_associations.proofs.records.Tie as tie
 returns : tie.Need-returns
 unfolding recordsIn
 returns c =
+    let record-at8 = c .before in
+    let record-at7 = record-at8 .before in
+    let record-at6 = record-at7 .before in
+    let record-at5 = record-at6 .before in
+    let record-at4 = record-at5 .before in
+    let record-at3 = record-at4 .before in
+    let record-at2 = record-at3 .before in
+    let record-at = record-at2 .before in
     rw (
       c .record-at9 .ensures,
-      c .before .record-at8 .ensures,
-      c .before .before .record-at7 .ensures,
-      c .before .before .before .record-at6 .ensures,
-      c .before .before .before .before .record-at5 .ensures,
-      c .before .before .before .before .before .record-at4 .ensures,
-      c .before .before .before .before .before .before .record-at3 .ensures,
-      c .before .before .before .before .before .before .before .record-at2 .ensures,
-      c .before .before .before .before .before .before .before .before .record-at .ensures,
+      record-at8 .record-at8 .ensures,
+      record-at7 .record-at7 .ensures,
+      record-at6 .record-at6 .ensures,
+      record-at5 .record-at5 .ensures,
+      record-at4 .record-at4 .ensures,
+      record-at3 .record-at3 .ensures,
+      record-at2 .record-at2 .ensures,
+      record-at .record-at .ensures,
     )
 
 pub records-spec : {M : Type 1} → statement M

@@ -5,14 +5,20 @@ use Rattle.conformance_clients.proofs.arrival.Tie as tie
 
 returns : tie.Need-returns
 returns c =
+    let arrival = c .before in
+    let from-index2 = arrival .before in
+    let octet-or-zero = from-index2 .before in
+    let timestamp = octet-or-zero .before in
+    let client = timestamp .before in
+    let from-index = client .before in
     rw (
       c .arrived-answer .ensures,
-      c .before .arrival .ensures,
-      c .before .before .from-index2 .ensures,
-      c .before .before .before .octet-or-zero .ensures,
-      c .before .before .before .before .timestamp .ensures,
-      c .before .before .before .before .before .«record» .ensures,
-      c .before .before .before .before .before .before .from-index .ensures,
+      arrival .arrival .ensures,
+      from-index2 .from-index2 .ensures,
+      octet-or-zero .octet-or-zero .ensures,
+      timestamp .timestamp .ensures,
+      client .«record» .ensures,
+      from-index .from-index .ensures,
     )
 
 pub arrival-spec : {M : Type 1} → statement M

@@ -5,12 +5,16 @@ use Rattle.conformance_clients.proofs.give_up.Tie as tie
 
 returns : tie.Need-returns
 returns c =
+    let give-up = c .before in
+    let read-be64 = give-up .before in
+    let client = read-be64 .before in
+    let from-index = client .before in
     rw (
       c .called-answer .ensures,
-      c .before .give-up .ensures,
-      c .before .before .read-be64 .ensures,
-      c .before .before .before .«record» .ensures,
-      c .before .before .before .before .from-index .ensures,
+      give-up .give-up .ensures,
+      read-be64 .read-be64 .ensures,
+      client .«record» .ensures,
+      from-index .from-index .ensures,
     )
 
 pub give-up-spec : {M : Type 1} → statement M

@@ -9,12 +9,16 @@ use Rattle.conformance_ledger.proofs.entry.Tie as tie
 returns : tie.Need-returns
 unfolding entryIn
 returns c =
+    let entry = c .before in
+    let octet-or-zero = entry .before in
+    let signed = octet-or-zero .before in
+    let ledger = signed .before in
     rw (
       c .entry-numbers .ensures,
-      c .before .entry .ensures,
-      c .before .before .octet-or-zero .ensures,
-      held-result w64 (c .before .before .before .signed .ok) (c .before .before .before .signed .ensures),
-      c .before .before .before .before .ledger .ensures,
+      entry .entry .ensures,
+      octet-or-zero .octet-or-zero .ensures,
+      held-result w64 (signed .signed .ok) (signed .signed .ensures),
+      ledger .ledger .ensures,
     )
 
 pub entry-spec : {M : Type 1} → statement M

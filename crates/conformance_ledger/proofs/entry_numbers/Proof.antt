@@ -8,8 +8,11 @@ use Rattle.conformance_ledger.proofs.entry_numbers.Tie as tie
 
 returns : tie.Need-returns
 returns c =
-    let debt : SFits w64 (c .before .before .before .before .args .entered .ledger .debt) = search needs in
-    rw (c .numbered .ensures, c .before .bits64 .ensures, c .before .before .before .entry-number .ensures, toZ-ofZ debt)
+    let bits64 = c .before in
+    let entry-number = bits64 .before .before in
+    let start = entry-number .before in
+    let debt : SFits w64 (start .args .entered .ledger .debt) = search needs in
+    rw (c .numbered .ensures, bits64 .bits64 .ensures, entry-number .entry-number .ensures, toZ-ofZ debt)
 
 pub entry-numbers-spec : {M : Type 1} → statement M
 entry-numbers-spec =

@@ -7,10 +7,12 @@ use Rattle.conformance_packets.proofs.answer.Tie as tie
 
 returns : tie.Need-returns
 unfolding answerTo bufferAfter
-returns c = (
-  rw (eq-eqb _ _ (c .before .before .before .before .if1 .taken)) (c .before .before .write .ensures .0),
-  rw (eq-eqb _ _ (c .before .before .before .before .if1 .taken)) (c .before .before .write .ensures .1),
-)
+returns c =
+    let write = c .before .before in
+    let t = write .before .before in (
+      rw (eq-eqb _ _ (t .if1 .taken)) (write .write .ensures .0),
+      rw (eq-eqb _ _ (t .if1 .taken)) (write .write .ensures .1),
+    )
 
 returns-2 : tie.Need-returns-2
 unfolding answerTo bufferAfter

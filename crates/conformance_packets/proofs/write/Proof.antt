@@ -4,10 +4,12 @@ use Rattle.conformance_packets.proofs.write.Statement.{statement}
 use Rattle.conformance_packets.proofs.write.Tie as tie
 
 returns : tie.Need-returns
-returns c = (
-  rw (c .write-numbers .ensures, c .before .before .before .write .ensures .0, c .before .before .before .before .fields .ensures),
-  rw (c .before .before .before .write .ensures .1, c .before .before .before .before .fields .ensures),
-)
+returns c =
+    let write = c .before .before .before in
+    let fields = write .before in (
+      rw (c .write-numbers .ensures, write .write .ensures .0, fields .fields .ensures),
+      rw (write .write .ensures .1, fields .fields .ensures),
+    )
 
 pub write-spec : {M : Type 1} → statement M
 write-spec =

@@ -7,17 +7,22 @@ use Rattle.conformance_servers.proofs.answer.Tie as tie
 
 returns : tie.Need-returns
 unfolding answerTo bufferAfter
-returns c = (
-  rw (eq-eqb _ _ (c .before .before .before .before .if1 .taken)) (c .before .before .reply .ensures .0),
-  rw (eq-eqb _ _ (c .before .before .before .before .if1 .taken)) (c .before .before .reply .ensures .1),
-)
+returns c =
+    let reply = c .before .before in
+    let t = reply .before .before in (
+      rw (eq-eqb _ _ (t .if1 .taken)) (reply .reply .ensures .0),
+      rw (eq-eqb _ _ (t .if1 .taken)) (reply .reply .ensures .1),
+    )
 
 returns-2 : tie.Need-returns-2
 unfolding answerTo bufferAfter
-returns-2 c = (
-  rw (ne-eqb _ _ (c .before .before .before .before .before .if1 .left), eq-eqb _ _ (c .before .before .before .before .if2 .taken)) (c .before .before .write-broadcast .ensures .0),
-  rw (ne-eqb _ _ (c .before .before .before .before .before .if1 .left), eq-eqb _ _ (c .before .before .before .before .if2 .taken)) (c .before .before .write-broadcast .ensures .1),
-)
+returns-2 c =
+    let write-broadcast = c .before .before in
+    let t = write-broadcast .before .before in
+    let t′ = t .before in (
+      rw (ne-eqb _ _ (t′ .if1 .left), eq-eqb _ _ (t .if2 .taken)) (write-broadcast .write-broadcast .ensures .0),
+      rw (ne-eqb _ _ (t′ .if1 .left), eq-eqb _ _ (t .if2 .taken)) (write-broadcast .write-broadcast .ensures .1),
+    )
 
 returns-3 : tie.Need-returns-3
 unfolding answerTo bufferAfter

@@ -4,23 +4,28 @@ use Rattle.conformance_servers.proofs.reply.Statement.{statement}
 use Rattle.conformance_servers.proofs.reply.Tie as tie
 
 returns : tie.Need-returns
-returns c = (
-  rw (
-    c .reply-numbers .ensures,
-    c .before .before .before .reply .ensures .0,
-    c .before .before .before .before .before .settings .ensures,
-    c .before .before .before .before .before .before .from-index .ensures,
-    c .before .before .before .before .before .before .before .timestamp2 .ensures,
-    c .before .before .before .before .before .before .before .before .timestamp .ensures,
-  ),
-  rw (
-    c .before .before .before .reply .ensures .1,
-    c .before .before .before .before .before .settings .ensures,
-    c .before .before .before .before .before .before .from-index .ensures,
-    c .before .before .before .before .before .before .before .timestamp2 .ensures,
-    c .before .before .before .before .before .before .before .before .timestamp .ensures,
-  ),
-)
+returns c =
+    let reply = c .before .before .before in
+    let settings = reply .before .before in
+    let from-index = settings .before in
+    let timestamp2 = from-index .before in
+    let timestamp = timestamp2 .before in (
+      rw (
+        c .reply-numbers .ensures,
+        reply .reply .ensures .0,
+        settings .settings .ensures,
+        from-index .from-index .ensures,
+        timestamp2 .timestamp2 .ensures,
+        timestamp .timestamp .ensures,
+      ),
+      rw (
+        reply .reply .ensures .1,
+        settings .settings .ensures,
+        from-index .from-index .ensures,
+        timestamp2 .timestamp2 .ensures,
+        timestamp .timestamp .ensures,
+      ),
+    )
 
 pub reply-spec : {M : Type 1} → statement M
 reply-spec =

@@ -9,13 +9,18 @@ use Rattle.conformance_servers.proofs.settings.Tie as tie
 returns : tie.Need-returns
 unfolding settingsIn
 returns c =
+    let read-be32 = c .before in
+    let signed8 = read-be32 .before in
+    let octet-or-zero3 = signed8 .before in
+    let octet-or-zero2 = octet-or-zero3 .before in
+    let octet-or-zero = octet-or-zero2 .before in
     rw (
       c .timestamp .ensures,
-      c .before .read-be32 .ensures,
-      held-result w8 (c .before .before .signed8 .ok) (c .before .before .signed8 .ensures),
-      c .before .before .before .octet-or-zero3 .ensures,
-      c .before .before .before .before .octet-or-zero2 .ensures,
-      c .before .before .before .before .before .octet-or-zero .ensures,
+      read-be32 .read-be32 .ensures,
+      held-result w8 (signed8 .signed8 .ok) (signed8 .signed8 .ensures),
+      octet-or-zero3 .octet-or-zero3 .ensures,
+      octet-or-zero2 .octet-or-zero2 .ensures,
+      octet-or-zero .octet-or-zero .ensures,
     )
 
 pub settings-spec : {M : Type 1} → statement M

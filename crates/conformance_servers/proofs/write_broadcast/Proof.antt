@@ -4,23 +4,28 @@ use Rattle.conformance_servers.proofs.write_broadcast.Statement.{statem
 use Rattle.conformance_servers.proofs.write_broadcast.Tie as tie
 
 returns : tie.Need-returns
-returns c = (
-  rw (
-    c .write-numbers .ensures,
-    c .before .before .before .write .ensures .0,
-    c .before .before .before .before .before .settings .ensures,
-    c .before .before .before .before .before .before .timestamp .ensures,
-    c .before .before .before .before .before .before .before .octet-or-zero2 .ensures,
-    c .before .before .before .before .before .before .before .before .octet-or-zero .ensures,
-  ),
-  rw (
-    c .before .before .before .write .ensures .1,
-    c .before .before .before .before .before .settings .ensures,
-    c .before .before .before .before .before .before .timestamp .ensures,
-    c .before .before .before .before .before .before .before .octet-or-zero2 .ensures,
-    c .before .before .before .before .before .before .before .before .octet-or-zero .ensures,
-  ),
-)
+returns c =
+    let write = c .before .before .before in
+    let settings = write .before .before in
+    let timestamp = settings .before in
+    let octet-or-zero2 = timestamp .before in
+    let octet-or-zero = octet-or-zero2 .before in (
+      rw (
+        c .write-numbers .ensures,
+        write .write .ensures .0,
+        settings .settings .ensures,
+        timestamp .timestamp .ensures,
+        octet-or-zero2 .octet-or-zero2 .ensures,
+        octet-or-zero .octet-or-zero .ensures,
+      ),
+      rw (
+        write .write .ensures .1,
+        settings .settings .ensures,
+        timestamp .timestamp .ensures,
+        octet-or-zero2 .octet-or-zero2 .ensures,
+        octet-or-zero .octet-or-zero .ensures,
+      ),
+    )
 
 pub write-broadcast-spec : {M : Type 1} → statement M
 write-broadcast-spec =

@@ -21,46 +21,67 @@ returns-3 c =
 returns-4 : tie.Need-returns-4
 unfolding answerTo
 returns-4 c =
+    let if4 = c .before in
+    let t = if4 .before in
+    let t′ = t .before in
+    let t3 = t′ .before in
     rw (
-      ne-eqb _ _ (c .before .before .before .before .if1 .left),
-      ne-eqb _ _ (c .before .before .before .if2 .left),
-      ne-eqb _ _ (c .before .before .if3 .left),
-      eq-eqb _ _ (c .before .if4 .taken),
+      ne-eqb _ _ (t3 .if1 .left),
+      ne-eqb _ _ (t′ .if2 .left),
+      ne-eqb _ _ (t .if3 .left),
+      eq-eqb _ _ (if4 .if4 .taken),
     ) (c .timestamp-of-date .ensures)
 
 returns-5 : tie.Need-returns-5
 unfolding answerTo
 returns-5 c =
+    let if5 = c .before in
+    let if4 = if5 .before in
+    let t = if4 .before in
+    let t′ = t .before in
+    let t3 = t′ .before in
     rw (
-      ne-eqb _ _ (c .before .before .before .before .before .if1 .left),
-      ne-eqb _ _ (c .before .before .before .before .if2 .left),
-      ne-eqb _ _ (c .before .before .before .if3 .left),
-      ne-eqb _ _ (c .before .before .if4 .left),
-      eq-eqb _ _ (c .before .if5 .taken),
+      ne-eqb _ _ (t3 .if1 .left),
+      ne-eqb _ _ (t′ .if2 .left),
+      ne-eqb _ _ (t .if3 .left),
+      ne-eqb _ _ (if4 .if4 .left),
+      eq-eqb _ _ (if5 .if5 .taken),
     ) (c .precision .ensures)
 
 returns-6 : tie.Need-returns-6
 unfolding answerTo
 returns-6 c =
+    let if6 = c .before in
+    let if5 = if6 .before in
+    let if4 = if5 .before in
+    let t = if4 .before in
+    let t′ = t .before in
+    let t3 = t′ .before in
     rw (
-      ne-eqb _ _ (c .before .before .before .before .before .before .if1 .left),
-      ne-eqb _ _ (c .before .before .before .before .before .if2 .left),
-      ne-eqb _ _ (c .before .before .before .before .if3 .left),
-      ne-eqb _ _ (c .before .before .before .if4 .left),
-      ne-eqb _ _ (c .before .before .if5 .left),
-      eq-eqb _ _ (c .before .if6 .taken),
+      ne-eqb _ _ (t3 .if1 .left),
+      ne-eqb _ _ (t′ .if2 .left),
+      ne-eqb _ _ (t .if3 .left),
+      ne-eqb _ _ (if4 .if4 .left),
+      ne-eqb _ _ (if5 .if5 .left),
+      eq-eqb _ _ (if6 .if6 .taken),
     ) (c .constants .ensures)
 
 returns-7 : tie.Need-returns-7
 unfolding answerTo
 returns-7 c =
+    let if6 = c .before in
+    let if5 = if6 .before in
+    let if4 = if5 .before in
+    let t = if4 .before in
+    let t′ = t .before in
+    let t3 = t′ .before in
     rw (
-      ne-eqb _ _ (c .before .before .before .before .before .before .if1 .left),
-      ne-eqb _ _ (c .before .before .before .before .before .if2 .left),
-      ne-eqb _ _ (c .before .before .before .before .if3 .left),
-      ne-eqb _ _ (c .before .before .before .if4 .left),
-      ne-eqb _ _ (c .before .before .if5 .left),
-      ne-eqb _ _ (c .before .if6 .left),
+      ne-eqb _ _ (t3 .if1 .left),
+      ne-eqb _ _ (t′ .if2 .left),
+      ne-eqb _ _ (t .if3 .left),
+      ne-eqb _ _ (if4 .if4 .left),
+      ne-eqb _ _ (if5 .if5 .left),
+      ne-eqb _ _ (if6 .if6 .left),
     ) (c .halve .ensures)
 
 pub answer-spec : {M : Type 1} → statement M

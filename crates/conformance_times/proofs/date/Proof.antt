@@ -7,14 +7,20 @@ use Rattle.conformance_times.proofs.date.Tie as tie
 returns : tie.Need-returns
 unfolding dateIn
 returns c =
+    let octet-or-zero5 = c .before in
+    let octet-or-zero4 = octet-or-zero5 .before in
+    let octet-or-zero3 = octet-or-zero4 .before in
+    let octet-or-zero2 = octet-or-zero3 .before in
+    let octet-or-zero = octet-or-zero2 .before in
+    let read-be32 = octet-or-zero .before in
     rw (
       c .read-be322 .ensures,
-      c .before .octet-or-zero5 .ensures,
-      c .before .before .octet-or-zero4 .ensures,
-      c .before .before .before .octet-or-zero3 .ensures,
-      c .before .before .before .before .octet-or-zero2 .ensures,
-      c .before .before .before .before .before .octet-or-zero .ensures,
-      c .before .before .before .before .before .before .read-be32 .ensures,
+      octet-or-zero5 .octet-or-zero5 .ensures,
+      octet-or-zero4 .octet-or-zero4 .ensures,
+      octet-or-zero3 .octet-or-zero3 .ensures,
+      octet-or-zero2 .octet-or-zero2 .ensures,
+      octet-or-zero .octet-or-zero .ensures,
+      read-be32 .read-be32 .ensures,
     )
 
 pub date-spec : {M : Type 1} → statement M

@@ -8,8 +8,10 @@ use Rattle.conformance_times.proofs.half_numbers.Tie as tie
 
 returns : tie.Need-returns
 returns c =
-    let o : SFits w64 (c .before .before .before .before .args .halves .offset) = search needs in
-    rw (c .numbered .ensures, c .before .before .bits64 .ensures, toZ-ofZ o)
+    let bits64 = c .before .before in
+    let start = bits64 .before .before in
+    let o : SFits w64 (start .args .halves .offset) = search needs in
+    rw (c .numbered .ensures, bits64 .bits64 .ensures, toZ-ofZ o)
 
 pub half-numbers-spec : {M : Type 1} → statement M
 half-numbers-spec = tie.close (tie.spec (λ c κs. search needs) (λ c. search needs) (λ c κs. search needs) returns)

@@ -7,13 +7,18 @@ use Rattle.conformance_times.proofs.measure.Tie as tie
 returns : tie.Need-returns
 unfolding measureIn
 returns c =
+    let measure = c .before in
+    let timestamp4 = measure .before in
+    let timestamp3 = timestamp4 .before in
+    let timestamp2 = timestamp3 .before in
+    let timestamp = timestamp2 .before in
     rw (
       c .offset-numbers .ensures,
-      c .before .measure .ensures,
-      c .before .before .timestamp4 .ensures,
-      c .before .before .before .timestamp3 .ensures,
-      c .before .before .before .before .timestamp2 .ensures,
-      c .before .before .before .before .before .timestamp .ensures,
+      measure .measure .ensures,
+      timestamp4 .timestamp4 .ensures,
+      timestamp3 .timestamp3 .ensures,
+      timestamp2 .timestamp2 .ensures,
+      timestamp .timestamp .ensures,
     )
 
 pub measure-spec : {M : Type 1} → statement M

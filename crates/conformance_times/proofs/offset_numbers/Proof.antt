@@ -14,9 +14,12 @@ returns c = rw (c .one .ensures) (sym (ap (λ z. packed (offsetNumbers z)) (c .b
 
 returns-2 : tie.Need-returns-2
 returns-2 c =
-    let o : SFits w64 (c .before .before .before .before .answer2 .given .0 .0) = search needs in
-    let d : SFits w64 (c .before .before .before .before .answer2 .given .0 .1 .1 .0) = search needs in
-    rw (c .numbered .ensures, c .before .bits642 .ensures, c .before .before .bits64 .ensures, toZ-ofZ o, toZ-ofZ d) (sym (ap (λ z. packed (offsetNumbers z)) (c .before .before .before .before .answer2 .given .1)))
+    let bits642 = c .before in
+    let bits64 = bits642 .before in
+    let answer2 = bits64 .before .before in
+    let o : SFits w64 (answer2 .answer2 .given .0 .0) = search needs in
+    let d : SFits w64 (answer2 .answer2 .given .0 .1 .1 .0) = search needs in
+    rw (c .numbered .ensures, bits642 .bits642 .ensures, bits64 .bits64 .ensures, toZ-ofZ o, toZ-ofZ d) (sym (ap (λ z. packed (offsetNumbers z)) (answer2 .answer2 .given .1)))
 
 pub offset-numbers-spec : {M : Type 1} → statement M
 offset-numbers-spec =
