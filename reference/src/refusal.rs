@@ -48,14 +48,13 @@ pub enum Refusal {
     TokenZero = 42,
     NoOrder = 43,
     FieldNotAdded = 44,
-    TimeLengthWrong = 45,
     LineMalformed = 64,
 }
 
 use Refusal::*;
 
 /// All refusals, in the order of their numbers.
-const ALL: [Refusal; 46] = [
+const ALL: [Refusal; 45] = [
     BufferTooShort,
     VersionUnsupported,
     OwnClockZero,
@@ -100,7 +99,6 @@ const ALL: [Refusal; 46] = [
     TokenZero,
     NoOrder,
     FieldNotAdded,
-    TimeLengthWrong,
     LineMalformed,
 ];
 
@@ -155,7 +153,7 @@ mod tests {
     #[test]
     fn numbers_there_and_back() {
         for number in 0..=255 {
-            let known = (1..=45).contains(&number) || number == 64;
+            let known = (1..=44).contains(&number) || number == 64;
             let back = Refusal::of_number(number).map(Refusal::number);
             assert_eq!(back, known.then_some(number));
         }

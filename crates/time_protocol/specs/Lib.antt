@@ -1,2 +1,0 @@
-pub mod TimeProtocol
-pub mod Laws

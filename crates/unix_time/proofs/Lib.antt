@@ -1,3 +1,0 @@
-pub mod Seconds
-pub mod Fractions
-pub mod Laws

@@ -1,2 +1,0 @@
-pub mod UnixTime
-pub mod Laws
