@@ -24,7 +24,7 @@ unfolding dateOf
 date-in t z = simp z
 
 -- what a timestamp that has a date is like
-dated-has : (t : Timestamp) (d : Date) → HasDate t d → (isZero t ≡ false) × (dateAt (secondsAt t) (fractionOf t) ≡ d)
+pub dated-has : (t : Timestamp) (d : Date) → HasDate t d → (isZero t ≡ false) × (dateAt (secondsAt t) (fractionOf t) ≡ d)
 unfolding dateOf
 dated-has t d q = go (isZero t) refl
   where

@@ -96,11 +96,11 @@ request-version-unsupported = 22
 abbrev pub settings-out-of-range : ℕ
 settings-out-of-range = 23
 
--- timestamp zero
+-- timestamp zero, also one that a date or a Unix time would have
 abbrev pub timestamp-zero : ℕ
 timestamp-zero = 24
 
--- no such date or time
+-- no such date or time, or nanoseconds of 10^9 or more
 abbrev pub no-such-date : ℕ
 no-such-date = 25
 
@@ -180,6 +180,10 @@ no-order = 43
 abbrev pub field-not-added : ℕ
 field-not-added = 44
 
+-- Time Protocol: a length to read other than 4, or a buffer under 4
+abbrev pub time-length-wrong : ℕ
+time-length-wrong = 45
+
 -- replay line malformed
 abbrev pub line-malformed : ℕ
 line-malformed = 64
@@ -231,6 +235,7 @@ numbers =
     ∷ token-zero
     ∷ no-order
     ∷ field-not-added
+    ∷ time-length-wrong
     ∷ line-malformed
     ∷ []
 

@@ -71,10 +71,10 @@ pub const REQUEST_VERSION_UNSUPPORTED: u8 = 22;
 // Set LI not 0 to 2, or set precision not in -32 to 0.
 pub const SETTINGS_OUT_OF_RANGE: u8 = 23;
 
-// Timestamp zero.
+// Timestamp zero, also one that a date or a Unix time would have.
 pub const TIMESTAMP_ZERO: u8 = 24;
 
-// No such date or time.
+// No such date or time, or nanoseconds of 10^9 or more.
 pub const NO_SUCH_DATE: u8 = 25;
 
 // Outside 1968-01-20 03:14:08 to 2104-02-26 09:42:23, fractions included.
@@ -134,11 +134,14 @@ pub const NO_ORDER: u8 = 43;
 // Extension field not added: an authenticator at the end of the packet, or no room in the buffer or in 1024 octets.
 pub const FIELD_NOT_ADDED: u8 = 44;
 
+// Time Protocol: a length to read other than 4, or a buffer under 4.
+pub const TIME_LENGTH_WRONG: u8 = 45;
+
 // Replay line malformed.
 pub const LINE_MALFORMED: u8 = 64;
 
 // All of them, in the order of the rules' table.
-pub fn numbers() -> [u8; 45]
+pub fn numbers() -> [u8; 46]
     ensures { λ r. ⌜ r ≡ numbers ⌝ }
 {
     [
@@ -186,6 +189,7 @@ pub fn numbers() -> [u8; 45]
         TOKEN_ZERO,
         NO_ORDER,
         FIELD_NOT_ADDED,
+        TIME_LENGTH_WRONG,
         LINE_MALFORMED,
     ]
 }

@@ -1,0 +1,2 @@
+pub mod TimeProtocol
+pub mod Laws

@@ -1,0 +1,3 @@
+pub mod Seconds
+pub mod Fractions
+pub mod Laws

@@ -1,0 +1,2 @@
+pub mod UnixTime
+pub mod Laws
