@@ -30,6 +30,10 @@ orders = record {
   adding = λ x. record { in-table = refl; in-rules = refl };
   date = λ t. record { in-table = refl; in-rules = refl };
   timestamp = λ d. record { in-table = refl; in-rules = refl };
+  unix-time = λ t. record { in-table = refl; in-rules = refl };
+  timestamp-of-unix = λ u. record { in-table = refl; in-rules = refl };
+  writing-count = λ x. record { in-table = refl; in-rules = refl };
+  reading-count = λ p. record { in-table = refl; in-rules = refl };
   precisions = λ n. record { in-table = refl; in-rules = refl };
   entries = λ x. record { in-table = refl; in-rules = refl };
   ticks = λ x. record { in-table = refl; in-rules = refl };

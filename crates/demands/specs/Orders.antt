@@ -13,6 +13,9 @@ use Rattle.extension_writer.specs.Writer.{addTests}
 use Rattle.packet.specs.Packet.{readTests, writeTests}
 use Rattle.calendar.specs.declared.Date.{Date}
 use Rattle.calendar.specs.Calendar.{dateTests, timestampTests}
+use Rattle.unix_time.specs.declared.UnixTime.{UnixTime}
+use Rattle.unix_time.specs.UnixTime as unix
+use Rattle.time_protocol.specs.TimeProtocol as time
 use Rattle.precision.specs.Precision.{precisionTests}
 use Rattle.client.specs.declared.Client.{Client}
 use Rattle.client.specs.Ask.{askTests}
@@ -36,6 +39,9 @@ use Rattle.demands.specs.Next.{Next, next}
 use Rattle.demands.specs.Add.{Add, add}
 use Rattle.demands.specs.Date as dates
 use Rattle.demands.specs.Timestamp as timestamps
+use Rattle.demands.specs.UnixTime.{unixTime}
+use Rattle.demands.specs.TimestampOfUnix.{timestampOfUnix}
+use Rattle.demands.specs.TimeProtocol.{CountToWrite, writeCount, readCount}
 use Rattle.demands.specs.Precision.{precision}
 use Rattle.demands.specs.Reply.{Request, reply}
 use Rattle.demands.specs.Broadcast.{Broadcast, broadcast, BroadcastArrival, broadcastArrival}
@@ -102,6 +108,18 @@ dateOrder = tests (24 ∷ [])
 abbrev pub timestampOrder : List Place
 timestampOrder = tests (25 ∷ 26 ∷ 24 ∷ [])
 
+abbrev pub unixTimeOrder : List Place
+unixTimeOrder = tests (24 ∷ [])
+
+abbrev pub timestampOfUnixOrder : List Place
+timestampOfUnixOrder = tests (25 ∷ 26 ∷ 24 ∷ [])
+
+abbrev pub writeCountOrder : List Place
+writeCountOrder = tests (45 ∷ [])
+
+abbrev pub readCountOrder : List Place
+readCountOrder = tests (45 ∷ [])
+
 abbrev pub precisionOrder : List Place
 precisionOrder = tests (28 ∷ [])
 
@@ -154,6 +172,10 @@ pub record Orders : Type 0 where
   pub adding : (x : Add) → Both addOrder (addTests (x .buffer) (x .size) (length (x .body))) (add .rules x)
   pub date : (t : Timestamp) → Both dateOrder (dateTests t) (dates.date .rules t)
   pub timestamp : (d : Date) → Both timestampOrder (timestampTests d) (timestamps.timestamp .rules d)
+  pub unix-time : (t : Timestamp) → Both unixTimeOrder (unix.unixTimeTests t) (unixTime .rules t)
+  pub timestamp-of-unix : (u : UnixTime) → Both timestampOfUnixOrder (unix.timestampTests u) (timestampOfUnix .rules u)
+  pub writing-count : (x : CountToWrite) → Both writeCountOrder (time.writeTests (x .buffer)) (writeCount .rules x)
+  pub reading-count : (p : List ℕ) → Both readCountOrder (time.readTests p) (readCount .rules p)
   pub precisions : (n : ℕ) → Both precisionOrder (precisionTests n) (precision .rules n)
   pub entries : (x : Entry) → Both entryOrder (entryTests (x .ledger) (x .offset) (x .half)) (entry .rules x)
   pub ticks : (x : Tick) → Both tickOrder (tickTests (x .ledger) (x .limit)) (tick .rules x)

@@ -25,6 +25,7 @@ use Rattle.packet.specs.Packet.{fieldsOf, octetsOf}
 use Rattle.calendar.specs.Gregorian.{leapDays, yearDays, monthDays, before, last}
 use Rattle.calendar.specs.Dates as dates
 use Rattle.calendar.specs.Dates.{date, daysTo, secondsTo, dateAt, yearOn, dayOfYear, monthOn, dayOfMonth}
+use Rattle.unix_time.specs.UnixTime as unix
 use Rattle.calendar.specs.Calendar.{dateOf, secondsAt, start1900, start2036, windowStart, windowEnd, inWindow, eraSeconds, timestampOf}
 use Rattle.precision.specs.Precision.{least, precisionOf}
 use Rattle.poll.specs.Poll.{tooSoon}
@@ -72,7 +73,7 @@ use Rattle.demands.proofs.Form.{acceptance-shown, differs, unique}
 use Rattle.demands.proofs.Each.{each}
 use Rattle.demands.proofs.Demand3.{follows}
 use Rattle.wrong_behaviours.specs.Client.{refusing, alwaysWriting, anyVersion, sendingClock, takingNone, stayingWaiting, spending, alwaysStopping, neverStopping, anyTail, withoutFields, kissFirst, anyOriginate, unsignedTimes, rootUntested, negativeDelayUntested, dispersionSigned, rootSwapped, rootAfter15, fixing, measuring, zeroOffset, hugeDelay, halfLost, largeHalf, towardZero, halvedApart}
-use Rattle.wrong_behaviours.specs.Others.{preferringFirst, forgettingUse, answeringZero, neverReplying, wrongOriginate, measuringHalfCircle, reversingHalfCircle, tellingHalfCircle, fourthYearDates, fourthYearTimestamps, roundedDown, takingEntries, payingAll, refusingLines, droppingDigits, startingAfresh}
+use Rattle.wrong_behaviours.specs.Others.{preferringFirst, forgettingUse, answeringZero, neverReplying, wrongOriginate, measuringHalfCircle, reversingHalfCircle, tellingHalfCircle, fourthYearDates, fourthYearTimestamps, nearestNanosecond, since1900, fractionDown, windowFirst, roundedDown, takingEntries, payingAll, refusingLines, droppingDigits, startingAfresh}
 use Rattle.wrong_behaviours.specs.Refuted.{withClient, withServer, Fails1, Fails2, Fails3, Refuted}
 use Rattle.wrong_behaviours.proofs.Exchanges.{slowBack, slowOut, bothOdd, otherServer, waiting, request, replied, with-root, with-tail, with-kiss, tells-other, near, inBound, concluded, in-bound}
 
@@ -108,6 +109,28 @@ february-2100 = differs (each behaviour.timestamp .answers) (date 2100 2 29 0 0 
 rounded-down : Fails2 behaviour.precision roundedDown
 unfolding precisionOf least
 rounded-down = differs (each behaviour.precision .answers) 3 (λ o. leZ (getD (form behaviour.precision .shown o .values) 0 (pos 0)) (negsuc 30)) tt tt
+
+-- ---- Unix time
+
+-- three units of 2^-32 s are 0.69 nanoseconds
+nearest-nanosecond : Fails2 behaviour.unixTime nearestNanosecond
+unfolding unix.unixTimeOf
+nearest-nanosecond = differs (each behaviour.unixTime .answers) (fromSeconds 1 3) (λ o. eqb (natAbs (getD (form behaviour.unixTime .shown o .values) 1 (pos 0))) 1) tt tt
+
+-- the first second of 1970
+since-1900 : Fails2 behaviour.unixTime since1900
+unfolding unix.unixTimeOf unix.unixSecond unix.start1970 secondsAt start1900 secondsTo daysTo leapDays yearDays monthDays before
+since-1900 = differs (each behaviour.unixTime .answers) (fromSeconds 2208988800 0) (λ o. leZ (pos 1) (getD (form behaviour.unixTime .shown o .values) 0 (pos 0))) tt tt
+
+-- a nanosecond of 1970 is 4.3 units
+fraction-down : Fails2 behaviour.timestampOfUnix fractionDown
+unfolding unix.timestampOf unix.start1970 secondsTo daysTo leapDays yearDays monthDays before inWindow windowStart windowEnd eraSeconds start1900 start2036
+fraction-down = differs (each behaviour.timestampOfUnix .answers) (record { seconds = pos 0; nanoseconds = 1 }) (λ o. leZ (getD (form behaviour.timestampOfUnix .shown o .values) 0 (pos 0)) (pos (fromSeconds 2208988800 4 .0))) tt tt
+
+-- outside the window and no such time
+window-first : Fails2 behaviour.timestampOfUnix windowFirst
+unfolding unix.timestampOf unix.start1970 secondsTo daysTo leapDays yearDays monthDays before inWindow windowStart windowEnd
+window-first = differs (each behaviour.timestampOfUnix .answers) (record { seconds = pos (2 ^ 40); nanoseconds = 10 ^ 9 }) (λ o. eqb (form behaviour.timestampOfUnix .shown o .number) 26) tt tt
 
 -- A3 and so many digits 0, of which 32 make a give-up
 abbrev giveUpLine : ℕ → List ℕ
@@ -292,6 +315,12 @@ refuted =
       every-fourth-year = every-fourth-year;
       february-2100 = february-2100;
       rounded-down = rounded-down;
+      nearest-nanosecond = nearest-nanosecond;
+      since-1900 = since-1900;
+      fraction-down = fraction-down;
+      window-first = window-first;
+      little-endian = differs (each behaviour.writeCount .answers) (record { buffer = replicate 4 0; count = 1 }) (λ w. eqb (getD (w .octets) 0 0) 1) tt tt;
+      reads-longer = differs (each behaviour.readCount .answers) (replicate 5 0) (λ o. eqb (form behaviour.readCount .shown o .number) 0) tt tt;
       refuses-entries-by-0 = λ demand. demand .listed (record { ledger = owing (pos 0); offset = pos 0; half = 0 }) refl;
       takes-every-entry = takes-every-entry;
       pays-all = pays-all;

@@ -1,13 +1,13 @@
 -- Wrong programs for the other calls. Each does what ours does but for one thing.
-use Prim.Native.Nat.{ℕ, suc, _+_, _-_, _/_, _%_, _^_}
+use Prim.Native.Nat.{ℕ, suc, _+_, _-_, _*_, _/_, _%_, _^_}
 use mathlib.Core.Bool.{Bool, cond, not, _&&_, _||_}
 use mathlib.Core.List.{List, [], _∷_, _++_}
 use lib.Dec.{eqb, leb, ltb}
-use lib.IntN.{pos, negℤ, _+ℤ_, _-ℤ_}
+use lib.IntN.{pos, negℤ, natAbs, _+ℤ_, _-ℤ_}
 use lib.ListN.{length, take, drop, replicate}
 use lib.Signed.{ltZ}
-use Rattle.arithmetic.specs.Octets.{part}
-use Rattle.refusals.specs.Numbers.{packet-length-wrong, arrived-before-sent, arrived-too-late, answered-before-received, delay-negative, first-below-second, no-order, timestamp-zero, no-such-date, outside-window, tick-out-of-range, line-malformed}
+use Rattle.arithmetic.specs.Octets.{part, bigEndian}
+use Rattle.refusals.specs.Numbers.{packet-length-wrong, arrived-before-sent, arrived-too-late, answered-before-received, delay-negative, first-below-second, no-order, timestamp-zero, no-such-date, outside-window, tick-out-of-range, time-length-wrong, line-malformed}
 use Rattle.ordered_tests.specs.Tests.{_if_else_, otherwise, answer}
 use Rattle.timestamp.specs.declared.Timestamp.{Timestamp}
 use Rattle.timestamp.specs.Timestamp.{constants, fromSeconds, fractionOf, isZero, _since_, negative}
@@ -21,7 +21,11 @@ use Rattle.calendar.specs.declared.TimestampAnswer.{TimestampAnswer}
 use Rattle.calendar.specs.Gregorian.{divides}
 use Rattle.calendar.specs.Dates as calendar
 use Rattle.calendar.specs.Dates.{exists, secondsTo, dateAt}
-use Rattle.calendar.specs.Calendar.{secondsAt, inWindow, eraSeconds}
+use Rattle.calendar.specs.Calendar.{start1900, secondsAt, inWindow, eraSeconds}
+use Rattle.unix_time.specs.declared.UnixTime.{UnixTime}
+use Rattle.unix_time.specs.declared.UnixTimeAnswer.{UnixTimeAnswer}
+use Rattle.unix_time.specs.UnixTime.{unixSecond, nanosecondsOf, fromYear0, inside, timestampAt}
+use Rattle.time_protocol.specs.declared.CountAnswer.{CountAnswer}
 use Rattle.precision.specs.declared.PrecisionAnswer.{PrecisionAnswer}
 use Rattle.precision.specs.Precision.{least}
 use Rattle.client.specs.declared.Client.{Client}
@@ -46,6 +50,10 @@ use Rattle.demands.specs.Write as writing
 use Rattle.demands.specs.Write.{write}
 use Rattle.demands.specs.Date.{date}
 use Rattle.demands.specs.Timestamp.{timestamp}
+use Rattle.demands.specs.UnixTime.{unixTime}
+use Rattle.demands.specs.TimestampOfUnix.{timestampOfUnix}
+use Rattle.demands.specs.TimeProtocol as time
+use Rattle.demands.specs.TimeProtocol.{writeCount, readCount}
 use Rattle.demands.specs.Precision.{precision}
 use Rattle.demands.specs.Entry.{entry, owed}
 use Rattle.demands.specs.Tick.{tick}
@@ -160,6 +168,54 @@ fourthYearTimestamps x = answer TimestampAnswer.Refused (
     outside-window if not (inWindow (fourthYearSeconds x)) else
     timestamp-zero if isZero (fourthYearTimestamp x) else
     otherwise (TimestampAnswer.Timestamp (fourthYearTimestamp x)))
+
+-- ---- Unix time
+
+abbrev toUnix : (Timestamp → UnixTime) → Implementation unixTime
+toUnix u t = answer UnixTimeAnswer.Refused (timestamp-zero if isZero t else otherwise (UnixTimeAnswer.UnixTime (u t)))
+
+-- nanoseconds rounded to the nearest
+abbrev pub nearestNanosecond : Implementation unixTime
+nearestNanosecond = toUnix λ t. record { seconds = unixSecond (secondsAt t); nanoseconds = (fractionOf t * 10 ^ 9 + 2 ^ 31) / 2 ^ 32 }
+
+-- seconds from 1900
+abbrev pub since1900 : Implementation unixTime
+since1900 = toUnix λ t. record { seconds = pos (secondsAt t) -ℤ pos start1900; nanoseconds = nanosecondsOf (fractionOf t) }
+
+-- the fraction rounded down on the way back
+abbrev fractionBelow : UnixTime → Timestamp
+fractionBelow u = fromSeconds (eraSeconds (natAbs (fromYear0 (u .seconds)))) (u .nanoseconds * 2 ^ 32 / 10 ^ 9)
+
+abbrev pub fractionDown : Implementation timestampOfUnix
+fractionDown u = answer TimestampAnswer.Refused (
+    no-such-date if leb (10 ^ 9) (u .nanoseconds) else
+    outside-window if not (inside (fromYear0 (u .seconds))) else
+    timestamp-zero if isZero (fractionBelow u) else
+    otherwise (TimestampAnswer.Timestamp (fractionBelow u)))
+
+-- the window tested before the nanoseconds
+abbrev pub windowFirst : Implementation timestampOfUnix
+windowFirst u = answer TimestampAnswer.Refused (
+    outside-window if not (inside (fromYear0 (u .seconds))) else
+    no-such-date if leb (10 ^ 9) (u .nanoseconds) else
+    timestamp-zero if isZero (timestampAt u) else
+    otherwise (TimestampAnswer.Timestamp (timestampAt u)))
+
+-- ---- the Time Protocol
+
+-- the octets from the lowest to the highest
+abbrev lowestFirst : ℕ → List ℕ
+lowestFirst n = n % 2 ^ 8 ∷ n / 2 ^ 8 % 2 ^ 8 ∷ n / 2 ^ 16 % 2 ^ 8 ∷ n / 2 ^ 24 % 2 ^ 8 ∷ []
+
+abbrev pub littleEndian : Implementation writeCount
+littleEndian x = record {
+  answer = time.ours-write x .answer;
+  octets = cond (ltb (length (x .buffer)) 4) (x .buffer) (lowestFirst (x .count) ++ drop 4 (x .buffer));
+}
+
+-- the first four of any octets
+abbrev pub readingLonger : Implementation readCount
+readingLonger p = answer CountAnswer.Refused (time-length-wrong if ltb (length p) 4 else otherwise (CountAnswer.Count (bigEndian (take 4 p))))
 
 -- ---- the precision: the greatest power of two not above the tick
 

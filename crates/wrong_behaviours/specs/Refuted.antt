@@ -12,14 +12,14 @@ use Rattle.demands.specs.Client as clients
 use Rattle.demands.specs.Reply as replies
 use Rattle.demands.specs.Reply.{Request}
 use Rattle.demands.specs.Line.{carrying}
-use Rattle.demands.specs.Behaviour.{Operation, client, association, reply, broadcast, broadcastArrival, measure, read, write, begin, next, body, add, date, timestamp, precision, entry, tick, line, form, Behaviour, ours}
+use Rattle.demands.specs.Behaviour.{Operation, client, association, reply, broadcast, broadcastArrival, measure, read, write, begin, next, body, add, date, timestamp, unixTime, timestampOfUnix, writeCount, readCount, precision, entry, tick, line, form, Behaviour, ours}
 use Rattle.demands.specs.Demand2.{Demand2}
 use Rattle.demands.specs.Demand3.{Demand3}
 use Rattle.demands.specs.Ticks.{Ticks}
 use Rattle.demands.specs.SingleServer.{NeverStops}
 use Rattle.demands.specs.Wire.{ClockUnseen}
 use Rattle.wrong_behaviours.specs.Client.{laterStart, refusing, alwaysWriting, anyVersion, sendingClock, takingNone, stayingWaiting, spending, alwaysStopping, neverStopping, anyTail, withoutFields, kissFirst, anyOriginate, unsignedTimes, rootUntested, negativeDelayUntested, dispersionSigned, rootSwapped, rootAfter15, fixing, measuring, zeroOffset, hugeDelay, halfLost, largeHalf, towardZero, halvedApart}
-use Rattle.wrong_behaviours.specs.Others.{preferringFirst, forgettingUse, answeringZero, neverReplying, wrongOriginate, replyingAnyway, measuringHalfCircle, reversingHalfCircle, tellingHalfCircle, readingNothing, writingNothing, fourthYearDates, fourthYearTimestamps, roundedDown, refusingEntries, takingEntries, payingAll, refusingLines, droppingDigits, startingAfresh}
+use Rattle.wrong_behaviours.specs.Others.{preferringFirst, forgettingUse, answeringZero, neverReplying, wrongOriginate, replyingAnyway, measuringHalfCircle, reversingHalfCircle, tellingHalfCircle, readingNothing, writingNothing, fourthYearDates, fourthYearTimestamps, nearestNanosecond, since1900, fractionDown, windowFirst, littleEndian, readingLonger, roundedDown, refusingEntries, takingEntries, payingAll, refusingLines, droppingDigits, startingAfresh}
 
 -- ours with this client
 abbrev clientOf : Implementation clients.client → (x : Operation) → Implementation (form x)
@@ -37,6 +37,10 @@ clientOf f body = ours .does body
 clientOf f add = ours .does add
 clientOf f date = ours .does date
 clientOf f timestamp = ours .does timestamp
+clientOf f unixTime = ours .does unixTime
+clientOf f timestampOfUnix = ours .does timestampOfUnix
+clientOf f writeCount = ours .does writeCount
+clientOf f readCount = ours .does readCount
 clientOf f precision = ours .does precision
 clientOf f entry = ours .does entry
 clientOf f tick = ours .does tick
@@ -61,6 +65,10 @@ serverOf f body = ours .does body
 serverOf f add = ours .does add
 serverOf f date = ours .does date
 serverOf f timestamp = ours .does timestamp
+serverOf f unixTime = ours .does unixTime
+serverOf f timestampOfUnix = ours .does timestampOfUnix
+serverOf f writeCount = ours .does writeCount
+serverOf f readCount = ours .does readCount
 serverOf f precision = ours .does precision
 serverOf f entry = ours .does entry
 serverOf f tick = ours .does tick
@@ -144,6 +152,13 @@ pub record Refuted : Type 0 where
   pub every-fourth-year : Fails2 date fourthYearDates
   pub february-2100 : Fails2 timestamp fourthYearTimestamps
   pub rounded-down : Fails2 precision roundedDown
+  -- Unix time and the Time Protocol
+  pub nearest-nanosecond : Fails2 unixTime nearestNanosecond
+  pub since-1900 : Fails2 unixTime since1900
+  pub fraction-down : Fails2 timestampOfUnix fractionDown
+  pub window-first : Fails2 timestampOfUnix windowFirst
+  pub little-endian : Fails2 writeCount littleEndian
+  pub reads-longer : Fails2 readCount readingLonger
   -- the ledger
   pub refuses-entries-by-0 : Fails1 entry refusingEntries
   pub takes-every-entry : Fails2 entry takingEntries
