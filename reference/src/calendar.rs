@@ -3,7 +3,7 @@
 
 use crate::refusal::Refusal::{self, *};
 
-const DAY: i128 = 86400;
+pub const DAY: i128 = 86400;
 /// Seconds from the start of 2036 to 06:28:16 on 7 February, from where a clear top bit counts.
 const SECOND_ERA: i128 = (31 + 6) * DAY + 6 * 3600 + 28 * 60 + 16;
 const ERA: i128 = 1 << 32;
@@ -35,7 +35,7 @@ pub fn month_days(year: u32, month: u8) -> u8 {
     }
 }
 
-fn year_days(year: u32) -> i128 {
+pub fn year_days(year: u32) -> i128 {
     if leap(year) { 366 } else { 365 }
 }
 
@@ -64,18 +64,23 @@ pub fn date_of(timestamp: u64) -> Result<Date, Refusal> {
     let seconds = i128::from(timestamp >> 32);
     let (first_year, since) =
         if seconds >= ERA / 2 { (1900, seconds) } else { (2036, seconds + SECOND_ERA) };
+    Ok(date_from(first_year, since, timestamp as u32))
+}
+
+/// The date so many seconds after the start of a year.
+pub fn date_from(first_year: u32, since: i128, fraction: u32) -> Date {
     let (year, days) = walk_years(first_year, since / DAY);
     let (month, days) = walk_months(year, days);
     let time = since % DAY;
-    Ok(Date {
+    Date {
         year,
         month,
         day: days as u8 + 1,
         hour: (time / 3600) as u8,
         minute: (time / 60 % 60) as u8,
         second: (time % 60) as u8,
-        fraction: timestamp as u32,
-    })
+        fraction,
+    }
 }
 
 /// Whether there is such a date and time, in any year.
@@ -90,8 +95,13 @@ pub fn exists(date: &Date) -> bool {
 /// Seconds from the start of 1900 to a date of 1900 or later.
 fn seconds_from_1900(date: &Date) -> i128 {
     let years: i128 = (1900..date.year).map(year_days).sum();
+    years * DAY + seconds_of_year(date)
+}
+
+/// Seconds from the start of its year to a date.
+pub fn seconds_of_year(date: &Date) -> i128 {
     let months: i128 = (1..date.month).map(|month| i128::from(month_days(date.year, month))).sum();
-    let days = years + months + i128::from(date.day) - 1;
+    let days = months + i128::from(date.day) - 1;
     let minutes = i128::from(date.hour) * 60 + i128::from(date.minute);
     days * DAY + minutes * 60 + i128::from(date.second)
 }

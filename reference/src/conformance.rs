@@ -7,6 +7,8 @@ mod extension_answer;
 pub mod extension_call;
 pub mod list_call;
 pub mod records;
+mod time_answer;
+pub mod time_call;
 
 use crate::hex_lines::answer_lines;
 use crate::refusal::Refusal;

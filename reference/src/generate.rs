@@ -20,6 +20,7 @@ mod server_calls;
 pub mod tails;
 mod text;
 pub mod ticks;
+pub mod time_calls;
 mod timestamps;
 
 use std::io::{self, Write};

@@ -1,6 +1,6 @@
 //! An independent second program for the SNTP client, a gateway's associations, the server,
-//! broadcast, extension fields, the calendar, the precision octet, the ledger and both line
-//! formats, so that its answers can be compared octet for octet with another program's. It is
+//! broadcast, extension fields, the calendar, Unix times, the Time Protocol, the precision octet,
+//! the ledger and both line formats, so that its answers can be compared octet for octet with another program's. It is
 //! written from docs/RULES.md and docs/CONFORMANCE.md alone.
 
 #![cfg_attr(not(test), deny(clippy::unwrap_used, clippy::expect_used, clippy::panic))]
@@ -27,4 +27,6 @@ pub mod random;
 pub mod refusal;
 pub mod replay;
 pub mod server;
+pub mod time_protocol;
 pub mod timestamp;
+pub mod unix;

@@ -435,6 +435,46 @@ fn malformed_additions() {
 }
 
 #[test]
+fn unix_times() {
+    let unix = |timestamp: u64| one(&format!("15{timestamp:016X}"));
+    let given = |seconds: i64, nanoseconds: u32| format!("00{seconds:016X}{nanoseconds:08X}");
+    assert_eq!(unix(0), "18");
+    assert_eq!(unix(2_208_988_800 << 32), given(0, 0));
+    assert_eq!(unix((2_208_988_800 << 32) - 1), given(-1, 999_999_999));
+    assert_eq!([4, 5].map(unix), [given(2_085_978_496, 0), given(2_085_978_496, 1)]);
+    let back = |seconds: i64, nanoseconds: u32| one(&format!("16{seconds:016X}{nanoseconds:08X}"));
+    assert_eq!(back(0, 0), "0083AA7E8000000000");
+    assert_eq!(back(0, 1), "0083AA7E8000000005");
+    assert_eq!(back(-1, 999_999_999), "0083AA7E7FFFFFFFFC");
+    assert_eq!(back(2_085_978_496, 0), "18");
+    assert_eq!(back(2_085_978_496, 1), "000000000000000005");
+    assert_eq!([back(-61_505_152, 0), back(-61_505_153, 0)], ["008000000000000000", "1A"]);
+    assert_eq!([back(i64::MIN, 0), back(i64::MAX, 999_999_999)], ["1A", "1A"]);
+    assert_eq!([back(i64::MIN, 1_000_000_000), back(2_085_978_496, u32::MAX)], ["19", "19"]);
+    for line in ["15", "1500000000000000", "15000000000000000000", "16", "160000000000000000000000"]
+    {
+        assert_eq!(one(line), "40", "{line}");
+    }
+}
+
+#[test]
+fn time_protocol() {
+    assert_eq!(one("170102030404"), "0001020304");
+    assert_eq!(one("170000000006"), "00000000005E5F");
+    assert_eq!(one("170102030403"), "2D5A5B5C");
+    assert_eq!(one("170102030400"), "2D");
+    assert_eq!(one("170102030450").len(), 2 + 160);
+    assert_eq!(one("1801020304"), "0001020304");
+    assert_eq!(one("1800000000"), "0000000000");
+    assert_eq!(["18", "18010203", "180102030405"].map(one), ["2D"; 3]);
+    assert_eq!(one(&format!("18{}", "00".repeat(80))), "2D");
+    let long = format!("18{}", "00".repeat(81));
+    for line in ["17", "1701020304", "170102030451", "17010203040400", &long] {
+        assert_eq!(one(line), "40", "{line}");
+    }
+}
+
+#[test]
 fn malformed_by_their_characters() {
     for line in ["\n", "0", "F0\r", "F0 ", " F0", "F0\0", "0G", "F", "F00"] {
         assert_eq!(one(line), "40", "{line:?}");

@@ -2,16 +2,19 @@
 use crate::lengths::LONGEST_LENT;
 use crate::lengths::LONGEST_LINE;
 use crate::lengths::LONGEST_PACKET;
+use crate::lengths::LONGEST_READ;
 use crate::lengths::RECORD;
 use crate::lent;
 use slices::from_index;
 use slices::octet_or_zero;
 
-// The length of a line up to its packet. No line is so long that its operation is not listed.
+// The length of a line up to its packet, or to the octets that 18 reads. No line is so long that its operation is not listed.
 fn head_length(operation: u8) -> usize {
     match operation {
-        0x03 | 0xF0 | 0xF1 => 1,
-        0x05 | 0x07 | 0x12 => 9,
+        0x03 | 0x18 | 0xF0 | 0xF1 => 1,
+        0x17 => 6,
+        0x05 | 0x07 | 0x12 | 0x15 => 9,
+        0x16 => 13,
         0x06 => 14,
         0x01 | 0x0D | 0xF2 => 17,
         0x0C => 18,
@@ -28,6 +31,7 @@ fn head_length(operation: u8) -> usize {
 fn longest_packet(operation: u8) -> usize {
     match operation {
         0x03 | 0x09 | 0x0B | 0x12 => LONGEST_PACKET,
+        0x18 => LONGEST_READ,
         _ => 0,
     }
 }

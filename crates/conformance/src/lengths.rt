@@ -4,6 +4,9 @@ pub(crate) const RECORD: usize = 28;
 
 pub(crate) const LONGEST_PACKET: usize = 1040;
 
+// Of octets that are read as a count of the Time Protocol.
+pub(crate) const LONGEST_READ: usize = 80;
+
 pub(crate) const LONGEST_LENT: usize = 80;
 
 // That of operation 09: operation, record, a timestamp, whether an alternate exists, and a packet.

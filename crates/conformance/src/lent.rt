@@ -10,6 +10,7 @@ pub(crate) fn length(operation: u8, line: &[u8]) -> usize {
         0x08 => octet_or_zero(line, 1 + RECORD),
         0x0B => octet_or_zero(line, 32),
         0x11 => octet_or_zero(line, 26),
+        0x17 => octet_or_zero(line, 5),
         _ => 0,
     };
     n as usize

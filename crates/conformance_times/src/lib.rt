@@ -111,7 +111,8 @@ fn date(line: &[u8]) -> Date
     }
 }
 
-fn timestamp_numbers(answer: TimestampAnswer) -> Numbers
+// What a conversion to a timestamp answers.
+pub fn timestamp_numbers(answer: TimestampAnswer) -> Numbers
     ensures { λ r. ⌜ r ≡ packed (timestampNumbers answer) ⌝ }
 {
     match answer {

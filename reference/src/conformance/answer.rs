@@ -5,6 +5,7 @@ use super::call::{AskArguments, Call, LONGEST, put_numbers};
 use super::extension_answer::put_extension_answer;
 use super::list_call::{ListCall, RecordCall};
 use super::records::{put_client, put_date, put_fields};
+use super::time_answer::put_time_answer;
 use crate::arrival::{Arrived, Told, arrival};
 use crate::associations::Associations;
 use crate::client::{Client, FRESH, ask, give_up};
@@ -47,6 +48,7 @@ pub fn put_answer(call: &Call, out: &mut Vec<u8>) {
         Call::OfList(ref call) => put_list_answer(call, out),
         Call::OfBroadcast(ref call) => put_broadcast_answer(call, out),
         Call::OfExtension(ref call) => put_extension_answer(call, out),
+        Call::OfTime(ref call) => put_time_answer(call, out),
         Call::Fresh => put_next(&FRESH, Ok(FRESH), out),
         Call::Constants => put_constants(out),
         Call::Halve { first, second } => put_halves(first.into(), second.into(), out),
@@ -105,7 +107,7 @@ fn lent(space: &mut [u8], n: u8) -> &mut [u8] {
 }
 
 /// Lends a buffer of n octets to a call, and shows the number and the buffer.
-fn put_written(n: u8, out: &mut Vec<u8>, call: impl FnOnce(&mut [u8]) -> Result<(), Refusal>) {
+pub fn put_written(n: u8, out: &mut Vec<u8>, call: impl FnOnce(&mut [u8]) -> Result<(), Refusal>) {
     let mut space = FILLED;
     let buffer = lent(&mut space, n);
     out.push(number_of(&call(buffer)));

@@ -4,13 +4,14 @@ use super::broadcast_call::BroadcastCall;
 use super::extension_call::{self, BEFORE_BODY, ExtensionCall, LONGEST_ADDITION};
 use super::list_call::{ListCall, list_length};
 use super::records::*;
+use super::time_call::TimeCall;
 use crate::calendar::Date;
 use crate::client::{Client, Token};
 use crate::octets::{Reader, Short};
 use crate::packet::Fields;
 use crate::server::Settings;
 
-/// Octets of the longest buffer, but that of an addition.
+/// Octets of the longest buffer, but that of an addition, and of what is read as an answer of TIME.
 pub const LONGEST: u8 = 80;
 /// Octets of the longest packet.
 pub const LONGEST_PACKET: usize = 1040;
@@ -46,6 +47,7 @@ pub enum Call<'a> {
     OfList(ListCall<'a>),
     OfBroadcast(BroadcastCall<'a>),
     OfExtension(ExtensionCall<'a>),
+    OfTime(TimeCall<'a>),
     Fresh,
     Constants,
     Halve { first: i64, second: i64 },
@@ -123,6 +125,10 @@ pub fn lengths(operation: u8, rest: &[u8]) -> Result<(usize, usize), Malformed> 
         0x11 => (26, 26),
         0x12 => (8, 8 + longest),
         0x13 | 0x14 => extension_call::lengths(operation, rest)?,
+        0x15 => (8, 8),
+        0x16 => (12, 12),
+        0x17 => (5, 5),
+        0x18 => (0, LONGEST.into()),
         0xF0 | 0xF1 => (0, 0),
         0xF2 => (16, 16),
         _ => return Err(Malformed::Operation),
@@ -177,6 +183,7 @@ fn read_call<'a>(operation: u8, octets: &mut Reader<'a>) -> Result<Call<'a>, Mal
         0x0E..=0x10 => Call::OfList(ListCall::read(operation, octets)?),
         0x11 | 0x12 => Call::OfBroadcast(BroadcastCall::read(operation, octets)?),
         0x13 | 0x14 => Call::OfExtension(ExtensionCall::read(operation, octets)?),
+        0x15..=0x18 => Call::OfTime(TimeCall::read(operation, octets)?),
         0xF0 => Call::Fresh,
         0xF1 => Call::Constants,
         0xF2 => Call::Halve { first: octets.i64()?, second: octets.i64()? },
@@ -212,6 +219,7 @@ impl<'a> Call<'a> {
             Call::OfList(call) => call.operation(),
             Call::OfBroadcast(call) => call.operation(),
             Call::OfExtension(call) => call.operation(),
+            Call::OfTime(call) => call.operation(),
             Call::Fresh => 0xF0,
             Call::Constants => 0xF1,
             Call::Halve { .. } => 0xF2,
@@ -254,6 +262,7 @@ impl<'a> Call<'a> {
             Call::OfList(ref call) => call.put(line),
             Call::OfBroadcast(ref call) => call.put(line),
             Call::OfExtension(ref call) => call.put(line),
+            Call::OfTime(ref call) => call.put(line),
             Call::Fresh | Call::Constants => {}
             Call::Halve { first, second } => put_numbers([first as u64, second as u64], line),
         }

@@ -11,6 +11,7 @@ mod plain;
 mod server;
 mod tails;
 mod ticks;
+mod times;
 mod timestamps;
 
 use super::outcome::Outcome;
@@ -109,6 +110,7 @@ impl Boundaries {
             Call::OfList(ref call) => lists::list_call(m, call, answer, outcome),
             Call::OfBroadcast(ref call) => broadcast::broadcast_call(m, call, outcome),
             Call::OfExtension(ref call) => extensions::extension_call(m, call, answer, outcome),
+            Call::OfTime(ref call) => times::time_call(m, call, answer, outcome),
             Call::Halve { first, second } => timestamps::halve(m, first.into(), second.into()),
             Call::Fresh | Call::Constants => {}
         }

@@ -10,7 +10,7 @@ use crate::kiss::CODES;
 use crate::refusal::Refusal::{self, *};
 
 /// Each number that each call can give, beside 00. Calls for a record of a list have one more.
-const REFUSALS: [(u8, &[Refusal]); 23] = [
+const REFUSALS: [(u8, &[Refusal]); 27] = [
     (DIFFERENCE, &[]),
     (0x02, &MEASURE_REFUSALS),
     (0x03, &[PacketLengthWrong]),
@@ -31,6 +31,10 @@ const REFUSALS: [(u8, &[Refusal]); 23] = [
     (BROADCAST_ARRIVAL, &BROADCAST_ARRIVAL_REFUSALS),
     (0x13, &[PacketLengthWrong]),
     (0x14, &[PacketLengthWrong, FieldNotAdded]),
+    (0x15, &[TimestampZero]),
+    (0x16, &[NoSuchDate, OutsideWindow, TimestampZero]),
+    (0x17, &[TimeLengthWrong]),
+    (0x18, &[TimeLengthWrong]),
     (0xF0, &[]),
     (0xF1, &[]),
     (0xF2, &[]),
@@ -110,9 +114,9 @@ const BROADCAST_ARRIVAL_REFUSALS: [Refusal; 8] = [
 ];
 
 /// All malformed lines and their kinds; by themselves also the wrong flag of an alternate, what is
-/// wrong in a list's records and in a broadcast line, a list of ten, and what is too long in an
-/// addition.
-const MALFORMED: [&str; 23] = [
+/// wrong in a list's records and in a broadcast line, a list of ten, a buffer of TIME, and what is
+/// too long in an addition.
+const MALFORMED: [&str; 24] = [
     "",
     "-empty",
     "-odd",
@@ -131,6 +135,7 @@ const MALFORMED: [&str; 23] = [
     "-n",
     "-n-list",
     "-n-broadcast",
+    "-n-time",
     "-n-addition",
     "-n-addition-1101",
     "-body",
@@ -139,9 +144,10 @@ const MALFORMED: [&str; 23] = [
 ];
 
 /// Operations whose lines can be too short and too long, and those that can be too long alone.
-const SHORT_AND_LONG: [u8; 13] =
-    [0x08, 0x09, 0x0A, 0x0B, 0x0C, 0x0D, 0x0E, 0x0F, 0x10, 0x11, 0x12, 0x14, 0xF2];
-const LONG: [u8; 3] = [0x03, 0x13, 0xF0];
+const SHORT_AND_LONG: [u8; 16] = [
+    0x08, 0x09, 0x0A, 0x0B, 0x0C, 0x0D, 0x0E, 0x0F, 0x10, 0x11, 0x12, 0x14, 0x15, 0x16, 0x17, 0xF2,
+];
+const LONG: [u8; 4] = [0x03, 0x13, 0x18, 0xF0];
 
 const DIFFERENCE: u8 = 0x01;
 const ARRIVAL: u8 = 0x09;
@@ -278,6 +284,7 @@ fn further_kind(malformed: Malformed, line: &[u8]) -> Option<&'static str> {
         Malformed::BufferLength if of_broadcast => Some("-n-broadcast"),
         Malformed::BufferLength if line.starts_with(&ADDITION_OF_1101) => Some("-n-addition-1101"),
         Malformed::BufferLength if line.first() == Some(&0x14) => Some("-n-addition"),
+        Malformed::BufferLength if line.first() == Some(&0x17) => Some("-n-time"),
         Malformed::Count if line.get(COUNT_AT) == Some(&(LARGEST_COUNT + 1)) => Some("-count-10"),
         _ => None,
     }

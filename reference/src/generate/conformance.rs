@@ -2,7 +2,7 @@
 
 use super::text::put_drawn;
 use super::{broadcast_calls, calendar_calls, client_calls, extension_calls, ledger_calls};
-use super::{fixed, list_calls, malformed, plain_calls, server_calls, write_lines};
+use super::{fixed, list_calls, malformed, plain_calls, server_calls, time_calls, write_lines};
 use crate::conformance::call::Call;
 use crate::random::Random;
 use std::io::{self, Write};
@@ -12,7 +12,7 @@ const RARE: u64 = 50;
 
 /// Appends the octets of one call.
 pub fn put_call(r: &mut Random, line: &mut Vec<u8>) {
-    match r.below(160) {
+    match r.below(172) {
         0..=2 => plain_calls::difference(r, line),
         3..=12 => plain_calls::measure(r, line),
         13..=16 => plain_calls::read_fields(r, line),
@@ -36,7 +36,11 @@ pub fn put_call(r: &mut Random, line: &mut Vec<u8>) {
         139..=146 => broadcast_calls::arrival(r, line),
         147 => broadcast_calls::arrival_at_unicast_client(r, line),
         148..=152 => extension_calls::read(r, line),
-        _ => extension_calls::add(r, line),
+        153..=159 => extension_calls::add(r, line),
+        160..=163 => time_calls::unix_of_timestamp(r, line),
+        164..=168 => time_calls::timestamp_of_unix(r, line),
+        169 | 170 => time_calls::time_read(r, line),
+        _ => time_calls::time_answer(r, line),
     }
 }
 

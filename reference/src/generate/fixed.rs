@@ -11,6 +11,7 @@ mod lists;
 mod malformed;
 mod tails;
 mod ticks;
+mod times;
 mod timestamps;
 
 use crate::associations::Associations;
@@ -59,6 +60,7 @@ pub fn lines() -> Vec<Vec<u8>> {
     let mut lines = Lines(Vec::new());
     timestamps::put_lines(&mut lines);
     calendar::put_lines(&mut lines);
+    times::put_lines(&mut lines);
     ticks::put_lines(&mut lines);
     exchanges::put_lines(&mut lines);
     clients::put_lines(&mut lines);
@@ -76,6 +78,6 @@ mod tests {
     #[test]
     fn there_are_enough() {
         let count = super::lines().len();
-        assert!((22_400..23_400).contains(&count), "{count}");
+        assert!((23_500..24_500).contains(&count), "{count}");
     }
 }

@@ -8,11 +8,13 @@ use super::list_calls;
 use super::packets::put_any;
 use super::plain_calls::write_fields;
 use super::server_calls::reply;
+use super::time_calls;
 use crate::conformance::broadcast_call::N_OF_BROADCAST_AT;
 use crate::conformance::call::*;
 use crate::conformance::extension_call::{BODY_LENGTH_AT, BUFFER_LENGTH_AT, LONGEST_ADDITION};
 use crate::conformance::list_call::{COUNT_AT, LARGEST_COUNT, record_at};
 use crate::conformance::records::{ASKED_AFTER_PHASE, TOKEN_AFTER_PHASE};
+use crate::conformance::time_call::N_OF_TIME_AT;
 use crate::random::Random;
 
 /// An operation that is not listed.
@@ -199,7 +201,7 @@ fn make_flag_wrong(r: &mut Random, line: &mut Vec<u8>) {
 /// A buffer that is too long.
 fn make_buffer_long(r: &mut Random, line: &mut Vec<u8>) {
     line.clear();
-    let at = match r.below(5) {
+    let at = match r.below(6) {
         0 => {
             write_fields(r, line);
             N_OF_WRITE_AT
@@ -215,6 +217,10 @@ fn make_buffer_long(r: &mut Random, line: &mut Vec<u8>) {
         3 => {
             broadcast_calls::write(r, line);
             N_OF_BROADCAST_AT
+        }
+        4 => {
+            time_calls::time_answer(r, line);
+            N_OF_TIME_AT
         }
         _ => {
             reply(r, line);

@@ -11,6 +11,7 @@ use crate::conformance::extension_call::{
 };
 use crate::conformance::list_call::{COUNT_AT, LARGEST_COUNT, ListCall, RecordCall, record_at};
 use crate::conformance::records::{ASKED_AFTER_PHASE, RECORD};
+use crate::conformance::time_call::{N_OF_TIME_AT, TimeCall};
 use crate::extension::Field;
 use crate::generate::malformed::{leave_out_token_of_ask, leave_out_tokens};
 use crate::server::Settings;
@@ -214,6 +215,18 @@ fn put_packets(lines: &mut Lines) {
     put_long_additions(lines);
 }
 
+/// Lines of Unix times and the Time Protocol with a wrong length, or a buffer that is too long.
+fn put_times(lines: &mut Lines) {
+    put_lengths(lines, 0x15, 8);
+    put_lengths(lines, 0x16, 12);
+    put_lengths(lines, 0x17, 5);
+    for length in [LONGEST + 1, LONGEST + 2, 255] {
+        lines.octets(&resized(&[0x18], 1 + usize::from(length)));
+        let answer = Call::OfTime(TimeCall::Answer { count: 1, n: 4 });
+        lines.octets(&with_octet(&answer, N_OF_TIME_AT, length));
+    }
+}
+
 pub fn put_lines(lines: &mut Lines) {
     put_lengths(lines, 0x08, 54);
     put_packets(lines);
@@ -224,6 +237,7 @@ pub fn put_lines(lines: &mut Lines) {
     put_without_tokens(lines);
     put_lists(lines);
     put_broadcasts(lines);
+    put_times(lines);
     let clock = u64::from_be_bytes([1; 8]);
     let ask = Call::Ask { client: FRESH, arguments: ASK };
     let arrival = Call::Arrival { client: FRESH, t4: clock, alternate: false, packet: &[0; 48] };
