@@ -5,6 +5,8 @@ pub mod broadcast_call;
 pub mod call;
 mod extension_answer;
 pub mod extension_call;
+mod firmware_answer;
+pub mod firmware_call;
 pub mod list_call;
 pub mod records;
 mod time_answer;

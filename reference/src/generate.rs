@@ -1,12 +1,14 @@
 //! Generators of lines for a comparison of two programs. The same seed gives the same lines.
 
 mod broadcast_calls;
+pub mod c;
 mod calendar_calls;
 mod client_calls;
 pub mod clocks;
 pub mod conformance;
 mod extension_calls;
 pub mod faults;
+mod firmware_calls;
 mod fixed;
 mod ledger_calls;
 mod list_calls;

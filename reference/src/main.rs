@@ -13,6 +13,7 @@ const USE: &str = "usage:
   reference conformance < LINES
   reference generate conformance COUNT SEED [open]
   reference generate replay COUNT SEED [open]
+  reference generate c COUNT SEED [open]
   reference count conformance LINES ANSWERS [LINES ANSWERS ...]
   reference count replay FRAMES ANSWERS [FRAMES ANSWERS ...]
   reference benchmark walk|direct D|T
@@ -62,6 +63,7 @@ fn generate(program: &str, count: &str, seed: &str, open: bool) -> io::Result<()
     match program {
         "conformance" => generate::conformance::run(count, seed, open, output),
         "replay" => generate::replay::run(count, seed, open, output),
+        "c" => generate::c::run(count, seed, open, output),
         _ => Err(problem(USE)),
     }
 }

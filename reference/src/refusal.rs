@@ -49,13 +49,14 @@ pub enum Refusal {
     NoOrder = 43,
     FieldNotAdded = 44,
     TimeLengthWrong = 45,
+    ImageNotLegal = 46,
     LineMalformed = 64,
 }
 
 use Refusal::*;
 
 /// All refusals, in the order of their numbers.
-const ALL: [Refusal; 46] = [
+const ALL: [Refusal; 47] = [
     BufferTooShort,
     VersionUnsupported,
     OwnClockZero,
@@ -101,6 +102,7 @@ const ALL: [Refusal; 46] = [
     NoOrder,
     FieldNotAdded,
     TimeLengthWrong,
+    ImageNotLegal,
     LineMalformed,
 ];
 
@@ -157,7 +159,7 @@ mod tests {
     #[test]
     fn numbers_there_and_back() {
         for number in 0..=255 {
-            let known = (1..=45).contains(&number) || number == 64;
+            let known = (1..=46).contains(&number) || number == 64;
             let back = Refusal::of_number(number).map(Refusal::number);
             assert_eq!(back, known.then_some(number));
         }

@@ -474,6 +474,100 @@ fn time_protocol() {
     }
 }
 
+const FRESH_IMAGE: &str = "200000000000000000000000000000000000000000000000000000000000000000";
+const WAITING_IMAGE: &str = "200104010000000000FFFFFFFA000000000123456789ABCDEF0000000000000007";
+const IDLE_IMAGE: &str = "200000010000000000000000000000000000000000000000000000000000000007";
+const RAISED_IMAGE: &str = "200000010100000000000000000000000000000000000000000000000000000007";
+const STOPPED_IMAGE: &str = "200200010000000000000000000000000000000000000000000000000000000007";
+
+/// The octets of a slice, without its length.
+fn shown(slice: &str) -> &str {
+    &slice[2..]
+}
+
+#[test]
+fn firmware_of_a_client() {
+    assert_eq!(one(&format!("19{WAITING_IMAGE}")), format!("00{}", shown(FRESH_IMAGE)));
+    assert_eq!([one("1900"), one("1902AABB")], ["2E", "2EAABB"]);
+    let ask = |image, n, version: u32| {
+        one(&format!("1A{image}{n}{version:08X}FFFFFFFA00000000{TOKEN}0000000000000007"))
+    };
+    let request = format!("23{}{TOKEN}", "00".repeat(39));
+    let taken = format!("00{}{request}", shown(WAITING_IMAGE));
+    assert_eq!(ask(FRESH_IMAGE, "30", 4), taken);
+    assert_eq!(ask(FRESH_IMAGE, "01", 260), format!("01{}5A", shown(FRESH_IMAGE)));
+    assert_eq!(&ask(FRESH_IMAGE, "30", 260)[..2], "02");
+    assert_eq!(&ask(WAITING_IMAGE, "30", 4)[..2], "05");
+    assert_eq!(ask("010A", "01", 0), "2E0A5A");
+    let give_up = |image, uptime| one(&format!("1C{image}00000000000000{uptime}"));
+    assert_eq!(give_up(WAITING_IMAGE, "17"), format!("00{}", shown(RAISED_IMAGE)));
+    assert_eq!(give_up(WAITING_IMAGE, "16"), format!("14{}", shown(WAITING_IMAGE)));
+    let illegal = WAITING_IMAGE.replacen("2001", "2003", 1);
+    assert_eq!(give_up(&illegal, "17"), format!("2E{}", shown(&illegal)));
+}
+
+#[test]
+fn firmware_of_an_arrival() {
+    let slice = format!("18{}", "77".repeat(24));
+    let arrival = |slice: &str, alternate: u32, packet: &str| {
+        one(&format!("1B{WAITING_IMAGE}{slice}FFFFFFFBC0000000{alternate:08X}{packet}"))
+    };
+    let answer = format!("01{}0000000A2000000000000000C0000000", "00".repeat(7));
+    assert_eq!(arrival(&slice, 0, REPLY), format!("00{}{answer}", shown(IDLE_IMAGE)));
+    let kiss = REPLY.replacen("2401", "2400", 1).replacen("47505300", "52415445", 1);
+    let told = format!("02000C0052415445{}", "00".repeat(16));
+    assert_eq!(arrival(&slice, 0, &kiss), format!("00{}{told}", shown(RAISED_IMAGE)));
+    for alternate in [1, 2, 256, u32::MAX] {
+        assert_eq!(arrival(&slice, alternate, &kiss), format!("00{}{told}", shown(STOPPED_IMAGE)));
+    }
+    let stays = format!("{}{}", shown(WAITING_IMAGE), "77".repeat(24));
+    assert_eq!(arrival(&slice, 0, ""), format!("07{stays}"));
+    assert_eq!(arrival("00", 0, ""), format!("2E{}", shown(WAITING_IMAGE)));
+    assert_eq!(arrival("01AA", 0, REPLY), format!("2E{}AA", shown(WAITING_IMAGE)));
+}
+
+#[test]
+fn firmware_of_a_server() {
+    let reply = |synchronised: u32, leap: u32, precision: i32, n: &str| {
+        let set = format!("{synchronised:08X}{leap:08X}{precision:08X}47505300");
+        let times = "000000000000000900000000000000050000000000000006";
+        one(&format!("1D{set}{times}{n}23{}", "00".repeat(47)))
+    };
+    let on = format!("240100EC{}475053000000000000000009", "00".repeat(8));
+    let on = format!("{on}{}00000000000000050000000000000006", "00".repeat(8));
+    for synchronised in [1, 2, 256, u32::MAX] {
+        assert_eq!(reply(synchronised, 0, -20, "30"), format!("00{on}"));
+    }
+    assert!(reply(0, 0, -20, "30").starts_with("00E40000EC"));
+    assert_eq!(reply(1, 258, 0, "01"), "015A");
+    for (leap, precision) in [(3, 0), (258, 0), (0, 224), (0, 1), (0, -33), (0, i32::MIN)] {
+        assert_eq!(&reply(1, leap, precision, "30")[..4], "175A");
+    }
+}
+
+#[test]
+fn malformed_firmware() {
+    let octets = |count: usize| "00".repeat(count);
+    assert_eq!(one(&format!("1928{}", octets(40))), format!("2E{}", octets(40)));
+    assert_eq!(one(&format!("1929{}", octets(41))), "40");
+    let arrival = |slice: usize, packet: usize| {
+        one(&format!("1B00{slice:02X}{}", octets(slice + 12 + packet)))
+    };
+    assert_eq!([arrival(40, 1040), arrival(0, 0)], [format!("2E{}", octets(40)), "2E".into()]);
+    assert_eq!([arrival(41, 0), arrival(40, 1041)], ["40", "40"]);
+    let ask = |n: u8| one(&format!("1A00{n:02X}{}", octets(28)));
+    assert_eq!((ask(80).len(), ask(81).as_str()), (162, "40"));
+    let reply = |n: u8, request: usize| one(&format!("1D{}{n:02X}{}", octets(40), octets(request)));
+    assert_eq!(
+        (reply(80, 1040).len(), reply(80, 1041), reply(81, 0)),
+        (162, "40".into(), "40".into())
+    );
+    for line in ["19", "1902AA", "1900AA", "1A", "1A00", "1B", "1B00", "1B0000", "1C", "1C00", "1D"]
+    {
+        assert_eq!(one(line), "40", "{line}");
+    }
+}
+
 #[test]
 fn malformed_by_their_characters() {
     for line in ["\n", "0", "F0\r", "F0 ", " F0", "F0\0", "0G", "F", "F00"] {

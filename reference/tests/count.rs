@@ -87,6 +87,29 @@ fn tails_that_are_missing_are_found() {
 }
 
 #[test]
+fn firmware_that_is_missing_is_found() {
+    let without_fresh = missing_without("19");
+    assert!(without_fresh.contains(&"19 46".to_string()), "{without_fresh:?}");
+    // Images of 31 octets.
+    assert_eq!(missing_without("1C1F"), ["1C 46-image-of-31"]);
+}
+
+#[test]
+fn lines_of_firmware_alone() {
+    let lines = lines_of(|n, seed, open, out| generate::c::run(n, seed, open, out), 60_000, 1);
+    let mut answers = Vec::new();
+    conformance::run(&lines[..], &mut answers).unwrap();
+    let mut counter = count::conformance::counter();
+    counter.count(&lines[..], &answers[..]).unwrap();
+    let of_firmware = |row: &str| ["19", "1A", "1B", "1C", "1D"].contains(&&row[..2]);
+    let text = counter.text();
+    let reached = text.lines().filter(|row| !row.ends_with(" 0"));
+    let mut others = reached.filter(|row| !of_firmware(row) && !row.starts_with("--"));
+    assert_eq!(others.next(), None);
+    assert_eq!(counter.missing().into_iter().find(|row| of_firmware(row)), None);
+}
+
+#[test]
 fn differences_that_are_missing_are_found() {
     assert_eq!(missing_without("01"), ["01 00", "01 no-order"]);
 }

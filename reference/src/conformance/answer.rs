@@ -3,6 +3,7 @@
 use super::broadcast_call::BroadcastCall;
 use super::call::{AskArguments, Call, LONGEST, put_numbers};
 use super::extension_answer::put_extension_answer;
+use super::firmware_answer::put_firmware_answer;
 use super::list_call::{ListCall, RecordCall};
 use super::records::{put_client, put_date, put_fields};
 use super::time_answer::put_time_answer;
@@ -32,10 +33,7 @@ pub fn put_answer(call: &Call, out: &mut Vec<u8>) {
         Call::Precision { tick } => {
             put_result(precision::precision(tick), out, |p, out| out.push(p as u8));
         }
-        Call::Ask { ref client, arguments } => {
-            let AskArguments { n, version, clock, token, uptime } = arguments;
-            put_asked(client, n, out, |buffer| ask(client, buffer, version, clock, token, uptime));
-        }
+        Call::Ask { ref client, arguments } => put_ask(client, arguments, out),
         Call::Arrival { ref client, t4, alternate, packet } => {
             put_arrived(client, arrival(client, packet, t4, alternate), out);
         }
@@ -49,6 +47,7 @@ pub fn put_answer(call: &Call, out: &mut Vec<u8>) {
         Call::OfBroadcast(ref call) => put_broadcast_answer(call, out),
         Call::OfExtension(ref call) => put_extension_answer(call, out),
         Call::OfTime(ref call) => put_time_answer(call, out),
+        Call::OfFirmware(ref call) => put_firmware_answer(call, out),
         Call::Fresh => put_next(&FRESH, Ok(FRESH), out),
         Call::Constants => put_constants(out),
         Call::Halve { first, second } => put_halves(first.into(), second.into(), out),
@@ -90,7 +89,7 @@ pub fn put_result<T>(
 }
 
 /// The longest buffer as it is before a call.
-const FILLED: [u8; LONGEST as usize] = filled();
+pub const FILLED: [u8; LONGEST as usize] = filled();
 
 const fn filled() -> [u8; LONGEST as usize] {
     let mut octets = [0x5A; LONGEST as usize];
@@ -102,7 +101,7 @@ const fn filled() -> [u8; LONGEST as usize] {
     octets
 }
 
-fn lent(space: &mut [u8], n: u8) -> &mut [u8] {
+pub fn lent(space: &mut [u8], n: u8) -> &mut [u8] {
     space.get_mut(..n.into()).unwrap_or_default()
 }
 
@@ -143,6 +142,11 @@ fn put_asked<T: Kept>(
     let buffer = lent(&mut space, n);
     put_next(before, call(buffer), out);
     out.extend_from_slice(buffer);
+}
+
+fn put_ask(client: &Client, arguments: AskArguments, out: &mut Vec<u8>) {
+    let AskArguments { n, version, clock, token, uptime } = arguments;
+    put_asked(client, n, out, |buffer| ask(client, buffer, version, clock, token, uptime));
 }
 
 /// The number and what comes next, which is what was handed in where the call is refused.

@@ -2,6 +2,7 @@
 
 use super::broadcast_call::BroadcastCall;
 use super::extension_call::{self, BEFORE_BODY, ExtensionCall, LONGEST_ADDITION};
+use super::firmware_call::{self, FirmwareCall};
 use super::list_call::{ListCall, list_length};
 use super::records::*;
 use super::time_call::TimeCall;
@@ -48,6 +49,7 @@ pub enum Call<'a> {
     OfBroadcast(BroadcastCall<'a>),
     OfExtension(ExtensionCall<'a>),
     OfTime(TimeCall<'a>),
+    OfFirmware(FirmwareCall<'a>),
     Fresh,
     Constants,
     Halve { first: i64, second: i64 },
@@ -90,6 +92,7 @@ pub enum Malformed {
     Flag,
     BufferLength,
     BodyLength,
+    SliceLength,
     Count,
 }
 
@@ -100,7 +103,7 @@ impl From<Short> for Malformed {
 }
 
 /// Shortest and longest rest of a line after its operation. That of a list goes by its count, that
-/// of an addition by the lengths it gives.
+/// of an addition, an image or an answer slice by the lengths it gives.
 pub fn lengths(operation: u8, rest: &[u8]) -> Result<(usize, usize), Malformed> {
     let longest = LONGEST_PACKET;
     let after_list =
@@ -129,6 +132,7 @@ pub fn lengths(operation: u8, rest: &[u8]) -> Result<(usize, usize), Malformed> 
         0x16 => (12, 12),
         0x17 => (5, 5),
         0x18 => (0, LONGEST.into()),
+        0x19..=0x1D => firmware_call::lengths(operation, rest)?,
         0xF0 | 0xF1 => (0, 0),
         0xF2 => (16, 16),
         _ => return Err(Malformed::Operation),
@@ -184,6 +188,7 @@ fn read_call<'a>(operation: u8, octets: &mut Reader<'a>) -> Result<Call<'a>, Mal
         0x11 | 0x12 => Call::OfBroadcast(BroadcastCall::read(operation, octets)?),
         0x13 | 0x14 => Call::OfExtension(ExtensionCall::read(operation, octets)?),
         0x15..=0x18 => Call::OfTime(TimeCall::read(operation, octets)?),
+        0x19..=0x1D => Call::OfFirmware(FirmwareCall::read(operation, octets)?),
         0xF0 => Call::Fresh,
         0xF1 => Call::Constants,
         0xF2 => Call::Halve { first: octets.i64()?, second: octets.i64()? },
@@ -220,6 +225,7 @@ impl<'a> Call<'a> {
             Call::OfBroadcast(call) => call.operation(),
             Call::OfExtension(call) => call.operation(),
             Call::OfTime(call) => call.operation(),
+            Call::OfFirmware(call) => call.operation(),
             Call::Fresh => 0xF0,
             Call::Constants => 0xF1,
             Call::Halve { .. } => 0xF2,
@@ -233,10 +239,7 @@ impl<'a> Call<'a> {
             Call::Difference { x, y } => put_numbers([x, y], line),
             Call::Measure { t1, t2, t3, t4 } => put_numbers([t1, t2, t3, t4], line),
             Call::ReadFields { packet } => line.extend(packet),
-            Call::WriteFields { n, ref fields } => {
-                line.push(n);
-                put_fields(fields, line);
-            }
+            Call::WriteFields { n, ref fields } => put_write_fields(n, fields, line),
             Call::DateOfTimestamp { timestamp } => put_numbers([timestamp], line),
             Call::TimestampOfDate { ref date } => put_date(date, line),
             Call::Precision { tick } => put_numbers([tick], line),
@@ -263,10 +266,16 @@ impl<'a> Call<'a> {
             Call::OfBroadcast(ref call) => call.put(line),
             Call::OfExtension(ref call) => call.put(line),
             Call::OfTime(ref call) => call.put(line),
+            Call::OfFirmware(ref call) => call.put(line),
             Call::Fresh | Call::Constants => {}
             Call::Halve { first, second } => put_numbers([first as u64, second as u64], line),
         }
     }
+}
+
+fn put_write_fields(n: u8, fields: &Fields, line: &mut Vec<u8>) {
+    line.push(n);
+    put_fields(fields, line);
 }
 
 fn put_arrival(client: &Client, t4: u64, alternate: bool, packet: &[u8], line: &mut Vec<u8>) {

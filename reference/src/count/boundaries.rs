@@ -5,6 +5,7 @@ mod broadcast;
 mod calendar;
 mod client;
 mod extensions;
+mod firmware;
 mod ledger;
 mod lists;
 mod plain;
@@ -14,6 +15,7 @@ mod ticks;
 mod times;
 mod timestamps;
 
+use super::conformance::ARRIVAL;
 use super::outcome::Outcome;
 use crate::conformance::call::Call;
 use crate::extension::LONGEST;
@@ -93,9 +95,10 @@ impl Boundaries {
             Call::Ask { ref client, ref arguments } => client::ask(m, client, arguments, outcome),
             Call::Arrival { ref client, t4, alternate, packet } => {
                 let next = client::handed_back(answer);
-                arrival::alternates(m, alternate, outcome);
+                arrival::alternates(m, ARRIVAL, alternate, outcome);
                 arrival::kisses(m, "", client, next, outcome.is_kiss().then_some(alternate));
-                arrival::arrival(m, client, t4, packet, answer, outcome);
+                let half = arrival::gives_half(answer);
+                arrival::arrival(m, client, t4, packet, half, outcome);
             }
             Call::GiveUp { ref client, uptime } => {
                 client::give_up(m, client, uptime, client::handed_back(answer), outcome);
@@ -111,6 +114,7 @@ impl Boundaries {
             Call::OfBroadcast(ref call) => broadcast::broadcast_call(m, call, outcome),
             Call::OfExtension(ref call) => extensions::extension_call(m, call, answer, outcome),
             Call::OfTime(ref call) => times::time_call(m, call, answer, outcome),
+            Call::OfFirmware(ref call) => firmware::firmware_call(m, call, answer, outcome),
             Call::Halve { first, second } => timestamps::halve(m, first.into(), second.into()),
             Call::Fresh | Call::Constants => {}
         }

@@ -4,13 +4,16 @@ use super::outcome::Outcome;
 use super::{Counter, Pair, Row};
 use crate::conformance::answer::NO_ORDER;
 use crate::conformance::call::{ALTERNATE_AT, ASKED_AT, Call, Malformed, lengths};
+use crate::conformance::firmware_call::{IMAGE_LENGTH_AT, LONGEST_SLICE};
 use crate::conformance::list_call::{COUNT_AT, LARGEST_COUNT};
 use crate::hex_lines::value;
+use crate::image;
 use crate::kiss::CODES;
 use crate::refusal::Refusal::{self, *};
 
-/// Each number that each call can give, beside 00. Calls for a record of a list have one more.
-const REFUSALS: [(u8, &[Refusal]); 27] = [
+/// Each number that each call can give, beside 00. Calls for a record of a list have one more, and
+/// those of firmware have 46 in place of 29.
+const REFUSALS: [(u8, &[Refusal]); 32] = [
     (DIFFERENCE, &[]),
     (0x02, &MEASURE_REFUSALS),
     (0x03, &[PacketLengthWrong]),
@@ -35,6 +38,11 @@ const REFUSALS: [(u8, &[Refusal]); 27] = [
     (0x16, &[NoSuchDate, OutsideWindow, TimestampZero]),
     (0x17, &[TimeLengthWrong]),
     (0x18, &[TimeLengthWrong]),
+    (0x19, &[ImageNotLegal]),
+    (0x1A, &ASK_REFUSALS),
+    (FIRMWARE_ARRIVAL, &ARRIVAL_REFUSALS),
+    (0x1C, &GIVE_UP_REFUSALS),
+    (0x1D, &REPLY_REFUSALS),
     (0xF0, &[]),
     (0xF1, &[]),
     (0xF2, &[]),
@@ -114,9 +122,9 @@ const BROADCAST_ARRIVAL_REFUSALS: [Refusal; 8] = [
 ];
 
 /// All malformed lines and their kinds; by themselves also the wrong flag of an alternate, what is
-/// wrong in a list's records and in a broadcast line, a list of ten, a buffer of TIME, and what is
-/// too long in an addition.
-const MALFORMED: [&str; 24] = [
+/// wrong in a list's records and in a broadcast line, a list of ten, a buffer of TIME and of firmware,
+/// what is too long in an addition, and an answer slice.
+const MALFORMED: [&str; 27] = [
     "",
     "-empty",
     "-odd",
@@ -139,19 +147,24 @@ const MALFORMED: [&str; 24] = [
     "-n-addition",
     "-n-addition-1101",
     "-body",
+    "-slice",
+    "-slice-answer",
+    "-n-firmware",
     "-count",
     "-count-10",
 ];
 
 /// Operations whose lines can be too short and too long, and those that can be too long alone.
-const SHORT_AND_LONG: [u8; 16] = [
-    0x08, 0x09, 0x0A, 0x0B, 0x0C, 0x0D, 0x0E, 0x0F, 0x10, 0x11, 0x12, 0x14, 0x15, 0x16, 0x17, 0xF2,
+const SHORT_AND_LONG: [u8; 21] = [
+    0x08, 0x09, 0x0A, 0x0B, 0x0C, 0x0D, 0x0E, 0x0F, 0x10, 0x11, 0x12, 0x14, 0x15, 0x16, 0x17, 0x19,
+    0x1A, 0x1B, 0x1C, 0x1D, 0xF2,
 ];
 const LONG: [u8; 4] = [0x03, 0x13, 0x18, 0xF0];
 
 const DIFFERENCE: u8 = 0x01;
-const ARRIVAL: u8 = 0x09;
+pub const ARRIVAL: u8 = 0x09;
 const LIST_ARRIVAL: u8 = 0x0F;
+const FIRMWARE_ARRIVAL: u8 = 0x1B;
 const REPLY: u8 = 0x0B;
 const BROADCAST_ARRIVAL: u8 = 0x12;
 /// The beginning of an addition to a buffer of 1101 octets.
@@ -162,11 +175,16 @@ fn is_of_list(operation: u8) -> bool {
     matches!(operation, 0x0E..=0x10)
 }
 
+/// Whether a call is one of C firmware.
+fn is_of_firmware(operation: u8) -> bool {
+    matches!(operation, 0x19..=0x1D)
+}
+
 /// The outcomes of a call that is not refused.
 fn passed(operation: u8) -> Vec<Outcome> {
     match operation {
         DIFFERENCE => vec![Outcome::Done, Outcome::NoOrder],
-        ARRIVAL | LIST_ARRIVAL => {
+        ARRIVAL | LIST_ARRIVAL | FIRMWARE_ARRIVAL => {
             let kisses = (0..=CODES.len()).map(|row| Outcome::Kiss(row as u8));
             kisses.chain([Outcome::Accepted]).collect()
         }
@@ -176,12 +194,15 @@ fn passed(operation: u8) -> Vec<Outcome> {
 
 fn outcomes(operation: u8, refusals: &[Refusal]) -> impl Iterator<Item = Outcome> {
     let of_list = is_of_list(operation).then_some(NotInList);
-    let refused = of_list.into_iter().chain(refusals.iter().copied()).map(Outcome::Refused);
-    refused.chain(passed(operation))
+    let refusals = refusals.iter().map(move |&refusal| match refusal {
+        RecordNotLegal if is_of_firmware(operation) => ImageNotLegal,
+        _ => refusal,
+    });
+    of_list.into_iter().chain(refusals).map(Outcome::Refused).chain(passed(operation))
 }
 
-pub fn arrival_outcomes() -> impl Iterator<Item = Outcome> {
-    outcomes(ARRIVAL, &ARRIVAL_REFUSALS)
+pub fn arrival_outcomes(operation: u8) -> impl Iterator<Item = Outcome> {
+    outcomes(operation, &ARRIVAL_REFUSALS)
 }
 
 pub fn reply_outcomes() -> impl Iterator<Item = Outcome> {
@@ -207,6 +228,7 @@ fn outcome(call: &Call, answer: &[u8]) -> Option<Outcome> {
     match call.operation() {
         DIFFERENCE => difference_outcome(answer),
         ARRIVAL | LIST_ARRIVAL => arrival_outcome(answer),
+        FIRMWARE_ARRIVAL => firmware_arrival_outcome(answer),
         _ => Outcome::of_number(*answer.first()?),
     }
 }
@@ -225,6 +247,17 @@ fn arrival_outcome(answer: &[u8]) -> Option<Outcome> {
         [1, 0, ..] => Some(Outcome::Accepted),
         // The row stands after offset, half, delay and code.
         [2, 0, rest @ ..] => rest.get(8 + 1 + 8 + 4).map(|&row| Outcome::Kiss(row)),
+        _ => None,
+    }
+}
+
+/// An arrival that is not refused has an answer slice, after the number and the image.
+fn firmware_arrival_outcome(answer: &[u8]) -> Option<Outcome> {
+    let (&number, rest) = answer.split_first()?;
+    match (number, rest.get(image::LENGTH..)) {
+        (1.., _) => Outcome::of_number(number),
+        (0, Some([1, ..])) => Some(Outcome::Accepted),
+        (0, Some([2, _, row, ..])) => Some(Outcome::Kiss(*row)),
         _ => None,
     }
 }
@@ -253,6 +286,7 @@ fn kind_of(malformed: Malformed) -> &'static str {
         Malformed::Flag => "-flag",
         Malformed::BufferLength => "-n",
         Malformed::BodyLength => "-body",
+        Malformed::SliceLength => "-slice",
         Malformed::Count => "-count",
     }
 }
@@ -260,7 +294,7 @@ fn kind_of(malformed: Malformed) -> &'static str {
 /// Which wrong length a line has.
 fn wrong_length(line: &[u8]) -> Option<Row> {
     let (&operation, rest) = line.split_first()?;
-    // A list without its count is too short, and so is an addition without its lengths.
+    // A list without its count is too short, and so is a line without the lengths that it gives.
     let long = lengths(operation, rest).is_ok_and(|(_, longest)| rest.len() > longest);
     Some(Row::WrongLength { operation, long })
 }
@@ -275,6 +309,8 @@ fn has_alternate_wrong(line: &[u8]) -> bool {
 fn further_kind(malformed: Malformed, line: &[u8]) -> Option<&'static str> {
     let of_list = line.first().is_some_and(|&operation| is_of_list(operation));
     let of_broadcast = line.first() == Some(&0x11);
+    let of_firmware = line.first().is_some_and(|&operation| is_of_firmware(operation));
+    let image_long = line.get(IMAGE_LENGTH_AT).is_some_and(|&length| length > LONGEST_SLICE);
     match malformed {
         Malformed::Flag if has_alternate_wrong(line) => Some("-flag-alternate"),
         Malformed::Flag if of_list => Some("-flag-list"),
@@ -285,6 +321,8 @@ fn further_kind(malformed: Malformed, line: &[u8]) -> Option<&'static str> {
         Malformed::BufferLength if line.starts_with(&ADDITION_OF_1101) => Some("-n-addition-1101"),
         Malformed::BufferLength if line.first() == Some(&0x14) => Some("-n-addition"),
         Malformed::BufferLength if line.first() == Some(&0x17) => Some("-n-time"),
+        Malformed::BufferLength if of_firmware => Some("-n-firmware"),
+        Malformed::SliceLength if !image_long => Some("-slice-answer"),
         Malformed::Count if line.get(COUNT_AT) == Some(&(LARGEST_COUNT + 1)) => Some("-count-10"),
         _ => None,
     }

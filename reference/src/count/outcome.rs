@@ -29,6 +29,11 @@ impl Outcome {
         self == Outcome::Refused(refusal)
     }
 
+    /// Whether the record handed in is not legal, by itself or as an image.
+    pub fn by_record(self) -> bool {
+        self.by(Refusal::RecordNotLegal) || self.by(Refusal::ImageNotLegal)
+    }
+
     /// Whether all tests passed.
     pub fn passed(self) -> bool {
         matches!(self, Outcome::Done | Outcome::Accepted)

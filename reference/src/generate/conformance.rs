@@ -2,17 +2,20 @@
 
 use super::text::put_drawn;
 use super::{broadcast_calls, calendar_calls, client_calls, extension_calls, ledger_calls};
-use super::{fixed, list_calls, malformed, plain_calls, server_calls, time_calls, write_lines};
+use super::{
+    firmware_calls, fixed, list_calls, malformed, plain_calls, server_calls, time_calls,
+    write_lines,
+};
 use crate::conformance::call::Call;
 use crate::random::Random;
 use std::io::{self, Write};
 
 /// Each kind of malformed line occurs once in so many.
-const RARE: u64 = 50;
+pub const RARE: u64 = 50;
 
 /// Appends the octets of one call.
 pub fn put_call(r: &mut Random, line: &mut Vec<u8>) {
-    match r.below(172) {
+    match r.below(196) {
         0..=2 => plain_calls::difference(r, line),
         3..=12 => plain_calls::measure(r, line),
         13..=16 => plain_calls::read_fields(r, line),
@@ -40,7 +43,8 @@ pub fn put_call(r: &mut Random, line: &mut Vec<u8>) {
         160..=163 => time_calls::unix_of_timestamp(r, line),
         164..=168 => time_calls::timestamp_of_unix(r, line),
         169 | 170 => time_calls::time_read(r, line),
-        _ => time_calls::time_answer(r, line),
+        171 => time_calls::time_answer(r, line),
+        _ => firmware_calls::put_call(r, line),
     }
 }
 

@@ -6,6 +6,7 @@ mod broadcasts;
 mod calendar;
 mod clients;
 mod exchanges;
+mod firmware;
 mod ledger;
 mod lists;
 mod malformed;
@@ -16,6 +17,7 @@ mod timestamps;
 
 use crate::associations::Associations;
 use crate::conformance::call::Call;
+use crate::conformance::firmware_call::FirmwareCall;
 use crate::conformance::list_call::{ListCall, RecordCall};
 use crate::hex_lines::put_hex;
 
@@ -26,10 +28,14 @@ const T: u64 = 1 << 32;
 struct Lines(Vec<Vec<u8>>);
 
 impl Lines {
+    /// A call; one of a client or a server also as C firmware makes it.
     fn call(&mut self, call: Call) {
         let mut line = Vec::new();
         call.put(&mut line);
         self.octets(&line);
+        if let Some(firmware) = FirmwareCall::of(&call) {
+            self.call(Call::OfFirmware(firmware));
+        }
     }
 
     fn calls<'a>(&mut self, calls: impl IntoIterator<Item = Call<'a>>) {
@@ -69,8 +75,16 @@ pub fn lines() -> Vec<Vec<u8>> {
     tails::put_lines(&mut lines);
     additions::put_lines(&mut lines);
     ledger::put_lines(&mut lines);
+    firmware::put_lines(&mut lines);
     malformed::put_lines(&mut lines);
     lines.0
+}
+
+/// The lines of firmware's operations.
+pub fn firmware_lines() -> Vec<Vec<u8>> {
+    let operations: [&[u8]; 5] = [b"19", b"1A", b"1B", b"1C", b"1D"];
+    let of_firmware = |line: &Vec<u8>| operations.iter().any(|digits| line.starts_with(digits));
+    lines().into_iter().filter(of_firmware).collect()
 }
 
 #[cfg(test)]
@@ -78,6 +92,6 @@ mod tests {
     #[test]
     fn there_are_enough() {
         let count = super::lines().len();
-        assert!((23_500..24_500).contains(&count), "{count}");
+        assert!((34_400..35_400).contains(&count), "{count}");
     }
 }

@@ -4,6 +4,7 @@ use super::broadcast_calls;
 use super::client_calls::{arrival, ask, give_up};
 use super::conformance::put_call;
 use super::extension_calls;
+use super::firmware_calls;
 use super::list_calls;
 use super::packets::put_any;
 use super::plain_calls::write_fields;
@@ -12,6 +13,7 @@ use super::time_calls;
 use crate::conformance::broadcast_call::N_OF_BROADCAST_AT;
 use crate::conformance::call::*;
 use crate::conformance::extension_call::{BODY_LENGTH_AT, BUFFER_LENGTH_AT, LONGEST_ADDITION};
+use crate::conformance::firmware_call::{IMAGE_LENGTH_AT, LONGEST_SLICE, N_OF_FIRMWARE_REPLY_AT};
 use crate::conformance::list_call::{COUNT_AT, LARGEST_COUNT, record_at};
 use crate::conformance::records::{ASKED_AFTER_PHASE, TOKEN_AFTER_PHASE};
 use crate::conformance::time_call::N_OF_TIME_AT;
@@ -240,14 +242,54 @@ fn make_addition_long(r: &mut Random, line: &mut Vec<u8>) {
     line.splice(at..at + 2, length.to_be_bytes());
 }
 
-/// Makes a call's octets malformed, or puts other ones in their place that are.
-pub fn make_malformed(r: &mut Random, line: &mut Vec<u8>) {
-    match r.below(11) {
+/// An image or an answer slice that is too long.
+fn make_slice_long(r: &mut Random, line: &mut Vec<u8>) {
+    line.clear();
+    firmware_calls::arrival(r, line);
+    let image = line.get(IMAGE_LENGTH_AT).map_or(0, |&length| usize::from(length));
+    let at = r.pick([IMAGE_LENGTH_AT, IMAGE_LENGTH_AT + 1 + image]);
+    set_from(r, at, LONGEST_SLICE + 1, line);
+}
+
+/// A buffer of a firmware's call that is too long.
+fn make_firmware_buffer_long(r: &mut Random, line: &mut Vec<u8>) {
+    line.clear();
+    let at = if r.one_in(2) {
+        firmware_calls::ask(r, line);
+        IMAGE_LENGTH_AT + 1 + line.get(IMAGE_LENGTH_AT).map_or(0, |&length| usize::from(length))
+    } else {
+        firmware_calls::reply(r, line);
+        N_OF_FIRMWARE_REPLY_AT
+    };
+    set_from(r, at, LONGEST + 1, line);
+}
+
+/// Puts octets of a firmware's call that are malformed.
+pub fn make_firmware_malformed(r: &mut Random, line: &mut Vec<u8>) {
+    line.clear();
+    firmware_calls::put_call(r, line);
+    match r.below(8) {
         0 => {
             let operation = unlisted(r);
-            if let Some(first) = line.first_mut() {
-                *first = operation;
-            }
+            set(0, operation, line);
+        }
+        1 | 2 => {
+            let (shortest, _) = line_lengths(line);
+            let keep = if r.one_in(2) { shortest - 1 } else { r.below(shortest as u64) as usize };
+            line.truncate(keep);
+        }
+        3 | 4 => lengthen(r, line),
+        5 => make_firmware_buffer_long(r, line),
+        _ => make_slice_long(r, line),
+    }
+}
+
+/// Makes a call's octets malformed, or puts other ones in their place that are.
+pub fn make_malformed(r: &mut Random, line: &mut Vec<u8>) {
+    match r.below(13) {
+        0 => {
+            let operation = unlisted(r);
+            set(0, operation, line);
         }
         1 => cut(r, line),
         2 => lengthen(r, line),
@@ -256,6 +298,7 @@ pub fn make_malformed(r: &mut Random, line: &mut Vec<u8>) {
         6 => make_count_large(r, line),
         7 => make_tokens_missing(r, line),
         8 => make_addition_long(r, line),
+        9 | 10 => make_firmware_malformed(r, line),
         _ => make_buffer_long(r, line),
     }
 }

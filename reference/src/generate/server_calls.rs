@@ -53,7 +53,7 @@ fn answered(r: &mut Random, t2: u64) -> u64 {
 }
 
 /// A request with any fields, or as our client writes it.
-fn request(r: &mut Random) -> Fields {
+fn request_fields(r: &mut Random) -> Fields {
     let any = any_fields(r);
     let version = match r.below(12) {
         0 => r.pick([0, 5]),
@@ -68,16 +68,30 @@ fn request(r: &mut Random) -> Fields {
     }
 }
 
-pub fn reply(r: &mut Random, line: &mut Vec<u8>) {
+/// What a server is given.
+pub struct Request {
+    pub settings: Settings,
+    pub t2: u64,
+    pub t3: u64,
+    pub n: u8,
+    pub octets: Vec<u8>,
+}
+
+pub fn request(r: &mut Random) -> Request {
     let settings = settings(r);
     let t2 = if r.one_in(24) { 0 } else { timestamp(r) };
     let t3 = answered(r, t2);
     let n = if r.one_in(2) { 48 } else { buffer_length(r) };
-    let mut request = octets_of(&request(r));
+    let mut octets = octets_of(&request_fields(r));
     match r.below(16) {
-        0 | 1 => make_illegal(r, LONGEST_PACKET, &mut request),
-        2..=5 => put_tail(r, &mut request),
+        0 | 1 => make_illegal(r, LONGEST_PACKET, &mut octets),
+        2..=5 => put_tail(r, &mut octets),
         _ => {}
     }
-    Call::Reply { settings, t2, t3, n, request: &request }.put(line);
+    Request { settings, t2, t3, n, octets }
+}
+
+pub fn reply(r: &mut Random, line: &mut Vec<u8>) {
+    let Request { settings, t2, t3, n, octets } = request(r);
+    Call::Reply { settings, t2, t3, n, request: &octets }.put(line);
 }

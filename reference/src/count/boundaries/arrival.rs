@@ -6,7 +6,7 @@ use super::tails::{tails, with_fields};
 use super::timestamps::{exchange, is_negative};
 use crate::client::{Client, Phase, Token};
 use crate::conformance::call::LONGEST_PACKET;
-use crate::count::conformance::arrival_outcomes;
+use crate::count::conformance::{ARRIVAL, arrival_outcomes};
 use crate::count::outcome::Outcome;
 use crate::packet::{self, Fields, LENGTH};
 use crate::refusal::Refusal::*;
@@ -23,7 +23,7 @@ pub fn arrival(
     client: &Client,
     t4: u64,
     packet: &[u8],
-    answer: &[u8],
+    half: bool,
     outcome: Outcome,
 ) {
     let accepted = outcome == Outcome::Accepted;
@@ -31,7 +31,7 @@ pub fn arrival(
     records(m, "", client, outcome);
     lengths(m, packet.len(), outcome);
     tails(m, packet, LONGEST_PACKET, outcome);
-    with_fields(m, packet, arrival_outcomes(), outcome);
+    with_fields(m, packet, arrival_outcomes(ARRIVAL), outcome);
     m.see("7-before-8", outcome.by(PacketLengthWrong) && client.phase != Phase::Waiting);
     m.see("8-idle", outcome.by(NotWaiting) && client.phase == Phase::Idle);
     m.see("8-stopped", outcome.by(NotWaiting) && client.phase == Phase::Stopped);
@@ -45,14 +45,20 @@ pub fn arrival(
     m.see("3-before-43", outcome.by(OwnClockZero) && difference(t4, client.t1).is_none());
     order_about_roots(m, &fields, client.t1, t4, outcome);
     m.see_each("accepted-exponent-", 6..=14, |x| accepted && client.exponent == x);
-    m.see("half-1-given", accepted && answer.get(10) == Some(&1));
+    m.see("half-1-given", accepted && half);
     exchange(m, [client.t1, fields.receive, fields.transmit, t4], outcome);
 }
 
-/// Every outcome, with an alternate and without one.
-pub fn alternates(m: &mut Marks, alternate: bool, outcome: Outcome) {
-    m.see_each("with-alternate-", arrival_outcomes(), |o| alternate && outcome == o);
-    m.see_each("without-alternate-", arrival_outcomes(), |o| !alternate && outcome == o);
+/// Every outcome of an operation, with an alternate and without one.
+pub fn alternates(m: &mut Marks, operation: u8, alternate: bool, outcome: Outcome) {
+    let outcomes = || arrival_outcomes(operation);
+    m.see_each("with-alternate-", outcomes(), |o| alternate && outcome == o);
+    m.see_each("without-alternate-", outcomes(), |o| !alternate && outcome == o);
+}
+
+/// Whether an answer to an arrival gives a half of 1.
+pub fn gives_half(answer: &[u8]) -> bool {
+    answer.get(10) == Some(&1)
 }
 
 /// What a kiss does to the record, with each exponent; the names begin with the given word.

@@ -26,7 +26,7 @@ fn kept_of_request(client: &Client) -> [bool; 3] {
 }
 
 fn records_that_asked(m: &mut Marks, word: &str, client: &Client, outcome: Outcome) {
-    let refused = outcome.by(RecordNotLegal) && client.asked;
+    let refused = outcome.by_record() && client.asked;
     let known = refused && (6..=14).contains(&client.exponent);
     let waits = known && client.phase == Phase::Waiting;
     let kept = kept_of_request(client);
@@ -47,7 +47,7 @@ fn records_that_asked(m: &mut Marks, word: &str, client: &Client, outcome: Outco
 }
 
 fn records_that_never_asked(m: &mut Marks, word: &str, client: &Client, outcome: Outcome) {
-    let never = outcome.by(RecordNotLegal) && !client.asked;
+    let never = outcome.by_record() && !client.asked;
     let kept = kept_of_request(client);
     let waits = never && client.phase == Phase::Waiting && kept == [true; 3];
     let stopped = never && client.phase == Phase::Stopped;
@@ -77,7 +77,7 @@ pub fn ask(m: &mut Marks, client: &Client, arguments: &AskArguments, outcome: Ou
     m.see("3-before-4", outcome.by(OwnClockZero) && client.phase == Phase::Stopped);
     m.see("2-before-3", unsupported && clock == 0);
     m.see("1-before-2", outcome.by(BufferTooShort) && version == 0);
-    m.see("29-before-1", outcome.by(RecordNotLegal) && n < 48);
+    m.see("record-before-1", outcome.by_record() && n < 48);
 }
 
 /// Both sides of test 42, and its place in the order.

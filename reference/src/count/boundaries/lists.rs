@@ -5,6 +5,7 @@ use crate::associations::{Associations, MOST};
 use crate::client::{Client, FRESH, Phase, legal};
 use crate::conformance::list_call::{ListCall, RecordCall};
 use crate::conformance::records::read_client;
+use crate::count::conformance::ARRIVAL;
 use crate::count::outcome::Outcome;
 use crate::octets::Reader;
 use crate::refusal::Refusal::*;
@@ -25,10 +26,10 @@ pub fn list_call(m: &mut Marks, list_call: &ListCall, answer: &[u8], outcome: Ou
             let alternate = list.alternate(*number).is_some();
             let kiss = outcome.is_kiss().then_some(alternate);
             let in_use = *number == list.in_use;
-            arrival::alternates(m, alternate, outcome);
+            arrival::alternates(m, ARRIVAL, alternate, outcome);
             arrival::kisses(m, "in-use-", client, next, kiss.filter(|_| in_use));
             arrival::kisses(m, "not-in-use-", client, next, kiss.filter(|_| !in_use));
-            arrival::arrival(m, client, t4, packet, answer, outcome);
+            arrival::arrival(m, client, t4, packet, arrival::gives_half(answer), outcome);
             uses(m, list, *number, after.map(|after| after.in_use), outcome);
         }
         RecordCall::GiveUp { uptime } => client::give_up(m, client, uptime, next, outcome),

@@ -67,7 +67,7 @@ fn shape(packet: &[u8]) -> Shape {
 
 /// Whether the tests came as far as the packet's length, and that passed.
 fn was_read(outcome: Outcome) -> bool {
-    let before = [PacketLengthWrong, BufferTooShort, RecordNotLegal, NotInList];
+    let before = [PacketLengthWrong, BufferTooShort, RecordNotLegal, ImageNotLegal, NotInList];
     !before.into_iter().any(|refusal| outcome.by(refusal))
 }
 

@@ -17,7 +17,7 @@ const SECONDS: [u64; 9] = [
     4_294_967_295,
 ];
 
-const DATES: [(u32, u8, u8, u8, u8, u8); 27] = [
+const DATES: [(u32, u8, u8, u8, u8, u8); 31] = [
     (1968, 1, 20, 3, 14, 7),
     (1968, 1, 20, 3, 14, 8),
     (1970, 1, 1, 0, 0, 0),
@@ -42,6 +42,10 @@ const DATES: [(u32, u8, u8, u8, u8, u8); 27] = [
     (u32::MAX, 2, 29, 0, 0, 0),
     (2000, 0, 1, 0, 0, 0),
     (2000, 13, 1, 0, 0, 0),
+    (2000, 255, 1, 0, 0, 0),
+    (2000, 1, 0, 0, 0, 0),
+    (2000, 1, 32, 0, 0, 0),
+    (2000, 1, 255, 0, 0, 0),
     (2000, 1, 1, 24, 0, 0),
     (2000, 1, 1, 0, 60, 0),
     (2000, 1, 1, 0, 0, 60),
@@ -60,7 +64,16 @@ fn put_dates(lines: &mut Lines) {
     }
 }
 
+/// A date of each year of the window.
+fn put_years(lines: &mut Lines) {
+    for year in 1968..=2104 {
+        let date = Date { year, month: 2, day: 1, ..Date::default() };
+        lines.call(Call::TimestampOfDate { date });
+    }
+}
+
 pub fn put_lines(lines: &mut Lines) {
     put_timestamps(lines);
     put_dates(lines);
+    put_years(lines);
 }

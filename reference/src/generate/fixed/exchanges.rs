@@ -1,6 +1,7 @@
 //! Fixed lines of packets: read, written, arriving at the client and at the server.
 
 use super::clients::{self, ASK, IDLE, STOPPED, TOKEN, ask, waiting};
+use super::tails::field;
 use super::{Lines, T, pairs};
 use crate::client::{Client, FRESH, Token};
 use crate::conformance::call::{AskArguments, Call, LONGEST};
@@ -36,7 +37,7 @@ pub fn arrival(lines: &mut Lines, client: &Client, t4: u64, fields: &Fields, len
     clients::arrival(lines, client, t4, &packet(fields, length, 0xAB));
 }
 
-const SET: Settings = Settings {
+pub const SET: Settings = Settings {
     synchronised: true,
     leap: 0,
     precision: -20,
@@ -45,7 +46,7 @@ const SET: Settings = Settings {
 };
 
 /// A request of our client.
-fn request() -> Fields {
+pub fn request() -> Fields {
     Fields { version: 4, mode: 3, transmit: T, ..Fields::default() }
 }
 
@@ -58,7 +59,8 @@ pub fn server_reply(lines: &mut Lines, n: u8, tail: &[u8]) {
     reply_to(lines, n, &[&octets_of(&request()), tail].concat());
 }
 
-/// Holds of a server, synchronised and not, with settings that pass and that do not.
+/// Holds of a server, synchronised and not, with settings that pass and that do not, of requests with
+/// a field and without.
 fn put_holds(lines: &mut Lines) {
     let half = 1 << 63;
     let times: Vec<(u64, u64)> = pairs(
@@ -66,13 +68,48 @@ fn put_holds(lines: &mut Lines) {
         &[u64::MAX, 0, 1, half - 1, half, half + 1],
     )
     .collect();
-    let request = octets_of(&request());
+    let requests = [Vec::new(), field(28, 28)].map(|tail| [octets_of(&request()), tail].concat());
     let set = pairs(&[true, false], &[0, 3]);
     let settings: Vec<Settings> =
         set.map(|(synchronised, leap)| Settings { synchronised, leap, ..SET }).collect();
     for ((t2, hold), settings) in pairs(&times, &settings) {
         let t3 = t2.wrapping_add(hold);
-        lines.call(Call::Reply { settings, t2, t3, n: 48, request: &request });
+        for request in &requests {
+            lines.call(Call::Reply { settings, t2, t3, n: 48, request });
+        }
+    }
+}
+
+/// A server's settings on both sides of their limits, synchronised and not.
+fn put_settings(lines: &mut Lines) {
+    let request = octets_of(&request());
+    let numbers: Vec<(u8, i8)> =
+        pairs(&[0, 1, 2, 3, 4, 255], &[-128, -33, -32, -1, 0, 1, 127]).collect();
+    for (synchronised, (leap, precision)) in pairs(&[true, false], &numbers) {
+        let settings = Settings { synchronised, leap, precision, ..SET };
+        lines.call(Call::Reply { settings, t2: T, t3: T, n: 48, request: &request });
+    }
+    for (synchronised, reference) in pairs(&[true, false], &[0, 1, u64::MAX]) {
+        let settings = Settings { synchronised, reference, ..SET };
+        lines.call(Call::Reply { settings, t2: T, t3: T, n: 48, request: &request });
+    }
+}
+
+/// Requests of each version and mode, with settings that pass and that do not, and with a field.
+fn put_requests(lines: &mut Lines) {
+    for first in 0..64 {
+        let fields = Fields { version: first / 8, mode: first % 8, ..request() };
+        for (leap, tail) in [(0, Vec::new()), (3, Vec::new()), (0, field(28, 28))] {
+            let settings = Settings { leap, ..SET };
+            let request = [octets_of(&fields), tail].concat();
+            lines.call(Call::Reply { settings, t2: T, t3: T, n: 48, request: &request });
+        }
+    }
+    for transmit in [0, 1, u64::MAX] {
+        reply_to(lines, 48, &octets_of(&Fields { transmit, ..request() }));
+    }
+    for (n, length) in pairs(&[47, 48], &[47, 48]) {
+        reply_to(lines, n, &packet(&request(), length, 0));
     }
 }
 
@@ -129,6 +166,22 @@ pub fn faulty_replies() -> [Fields; 12] {
         Fields { receive: 0, ..good },
         Fields { transmit: 0, ..good },
     ]
+}
+
+/// Each version and mode, and some strata.
+fn put_first_octets(lines: &mut Lines) {
+    for first in 0..64 {
+        let fields = Fields { version: first / 8, mode: first % 8, ..reply(T, T) };
+        arrival(lines, &waiting(T), T, &fields, 48);
+    }
+    for version in 1..=3 {
+        let client = Client { version, ..waiting(T) };
+        arrival(lines, &client, T, &Fields { version, ..reply(T, T) }, 48);
+        arrival(lines, &client, T, &reply(T, T), 48);
+    }
+    for stratum in (0..=17).chain([128, 255]) {
+        arrival(lines, &waiting(T), T, &Fields { stratum, ..reply(T, T) }, 48);
+    }
 }
 
 /// The token, T1 and others as originate, of a reply and of a kiss; one of the tokens is T1.
@@ -191,6 +244,7 @@ pub fn put_lines(lines: &mut Lines) {
     put_kisses(lines);
     put_exponents(lines);
     put_faults(lines);
+    put_first_octets(lines);
     put_tokens(lines);
     put_unwanted(lines);
     lines.calls([Call::Fresh, Call::Constants]);
@@ -198,4 +252,6 @@ pub fn put_lines(lines: &mut Lines) {
     put_roots_with_other_faults(lines);
     put_no_order_with_zeros(lines);
     put_holds(lines);
+    put_settings(lines);
+    put_requests(lines);
 }

@@ -9,6 +9,7 @@ use crate::conformance::call::*;
 use crate::conformance::extension_call::{
     Addition, BEFORE_BODY, BODY_LENGTH_AT, BUFFER_LENGTH_AT, ExtensionCall,
 };
+use crate::conformance::firmware_call::{FirmwareCall, LONGEST_SLICE};
 use crate::conformance::list_call::{COUNT_AT, LARGEST_COUNT, ListCall, RecordCall, record_at};
 use crate::conformance::records::{ASKED_AFTER_PHASE, RECORD};
 use crate::conformance::time_call::{N_OF_TIME_AT, TimeCall};
@@ -227,6 +228,56 @@ fn put_times(lines: &mut Lines) {
     }
 }
 
+/// A call of firmware with the longest slices, cut or lengthened.
+fn put_firmware_lengths(lines: &mut Lines) {
+    let image = vec![0; LONGEST_SLICE.into()];
+    let calls = [
+        FirmwareCall::Fresh { image: image.clone() },
+        FirmwareCall::Ask { image: image.clone(), n: 1, version: 4, clock: 1, token: 1, uptime: 1 },
+        FirmwareCall::Arrival {
+            image: image.clone(),
+            answer: image.clone(),
+            t4: 1,
+            alternate: 1,
+            packet: &[],
+        },
+        FirmwareCall::GiveUp { image, uptime: 1 },
+    ];
+    for line in calls.map(|call| line_of(&Call::OfFirmware(call))) {
+        let shorter = [1, 2, 3, 20, 41, 42, 43, line.len() - 1];
+        let longer = [line.len(), line.len() + 1, line.len() + 1040, line.len() + 1041];
+        shorter.into_iter().chain(longer).for_each(|length| lines.octets(&resized(&line, length)));
+    }
+}
+
+/// Images and answer slices that are too long, whether the octets are there or not.
+fn put_long_slices(lines: &mut Lines) {
+    for (operation, length) in
+        pairs(&[0x19, 0x1A, 0x1B, 0x1C], &[LONGEST_SLICE, LONGEST_SLICE + 1, 255])
+    {
+        for after in [0, 8, 12, 29, 37] {
+            lines.octets(&resized(&[operation, length], 2 + usize::from(length) + after));
+        }
+    }
+    for length in [LONGEST_SLICE, LONGEST_SLICE + 1, 255] {
+        let line = resized(&[&[0x1B, 32], &[0; 32][..], &[length]].concat(), 35 + 255 + 12);
+        lines.octets(&line);
+    }
+}
+
+/// Lines of firmware with a wrong length, or a buffer that is too long.
+fn put_firmware(lines: &mut Lines) {
+    put_firmware_lengths(lines);
+    put_long_slices(lines);
+    put_lengths_with_packet(lines, 0x1D, 41);
+    for n in [LONGEST, LONGEST + 1, 255] {
+        let line = resized(&[&[0x1A, 32], &[0; 32][..], &[n]].concat(), 2 + 32 + 29);
+        lines.octets(&line);
+        let line = [&[0x1D][..], &[0; 40], &[n], &[0x23; 48]].concat();
+        lines.octets(&line);
+    }
+}
+
 pub fn put_lines(lines: &mut Lines) {
     put_lengths(lines, 0x08, 54);
     put_packets(lines);
@@ -238,6 +289,7 @@ pub fn put_lines(lines: &mut Lines) {
     put_lists(lines);
     put_broadcasts(lines);
     put_times(lines);
+    put_firmware(lines);
     let clock = u64::from_be_bytes([1; 8]);
     let ask = Call::Ask { client: FRESH, arguments: ASK };
     let arrival = Call::Arrival { client: FRESH, t4: clock, alternate: false, packet: &[0; 48] };

@@ -134,9 +134,29 @@ fn put_faults(lines: &mut Lines) {
     }
 }
 
+/// Replies with a field that are refused for a root field or for a time.
+fn put_late_faults(lines: &mut Lines) {
+    let half = T + (1 << 63);
+    let replies = [
+        (T, Fields { root_delay: -1, ..reply(T, T) }),
+        (T, Fields { root_dispersion: 65536, ..reply(T, T) }),
+        (T + (1 << 36) + 1, reply(T, T)),
+        (T, reply(T, T - 1)),
+        (T + 5, reply(T, T + 6)),
+        (T + 2, reply(half + 1, half + 1)),
+        (half, reply(T, T)),
+        (T, reply(half, half)),
+    ];
+    for (t4, fields) in replies {
+        let packet = with_tail(&octets_of(&fields), &field(28, 28));
+        clients::arrival(lines, &waiting(T), t4, &packet);
+    }
+}
+
 pub fn put_lines(lines: &mut Lines) {
     tails().for_each(|tail| put_tail(lines, &tail));
     put_lengths(lines);
     put_faults(lines);
+    put_late_faults(lines);
     put_kisses(lines);
 }
