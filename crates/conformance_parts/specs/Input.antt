@@ -1,6 +1,5 @@
 -- The parts of a conformance line (docs/CONFORMANCE.md). Past the end of a line its octets are 0.
 use Prim.Native.Nat.{ℕ}
-use mathlib.Core.Bool.{cond}
 use mathlib.Core.List.{List}
 use lib.Dec.{eqb}
 use lib.IntN.{ℤ}
@@ -11,9 +10,8 @@ use Rattle.timestamp.specs.declared.Timestamp.{Timestamp}
 use Rattle.timestamp.specs.Timestamp.{timestamp}
 use Rattle.token.specs.declared.Token.{Token}
 use Rattle.token.specs.Token.{token}
-use Rattle.client.specs.declared.Phase.{Phase}
-use Rattle.client.specs.declared.Phase.the-variants.{Idle, Waiting, Stopped}
 use Rattle.client.specs.declared.Client.{Client}
+use Rattle.firmware_layouts.specs.Image.{phaseOf}
 
 abbrev pub octetAt : List ℕ → ℕ → ℕ
 octetAt line at = getD line at 0
@@ -27,11 +25,7 @@ timestampAt line at = timestamp (readAt 8 line at)
 abbrev pub tokenAt : List ℕ → ℕ → Token
 tokenAt line at = token (readAt 8 line at)
 
--- 00 idle, 01 waiting, 02 stopped; no other is well formed
-abbrev pub phaseOf : ℕ → Phase
-phaseOf n = cond (eqb n 0) Idle (cond (eqb n 1) Waiting Stopped)
-
--- a client record: phase, T1 (8), token (8), version, ever asked (00 or 01), uptime (8), exponent
+-- a client record: phase (00 idle, 01 waiting, 02 stopped; no other is well formed), T1 (8), token (8), version, ever asked (00 or 01), uptime (8), exponent
 unfoldable pub recordIn : List ℕ → Client
 recordIn part = record {
   phase = phaseOf (octetAt part 0);

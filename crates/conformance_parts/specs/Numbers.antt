@@ -1,11 +1,9 @@
 -- The numbers of a conformance answer, and the values that they are handed over as.
 use Prim.Native.Nat.{ℕ, _+_, _*_}
-use mathlib.Core.Bool.{Bool, cond}
 use mathlib.Core.List.{List, [], _∷_, _++_}
 use lib.ListN.{take, replicate}
-use Rattle.client.specs.declared.Phase.{Phase}
-use Rattle.client.specs.declared.Phase.the-variants.{Idle, Waiting, Stopped}
 use Rattle.client.specs.declared.Client.{Client}
+use Rattle.firmware_layouts.specs.Image.{octetOfPhase, octetOfFlag}
 
 -- a number of an answer, and how many octets it has there
 pub record Number : Type 0 where
@@ -37,14 +35,6 @@ abbrev pub oneNumber : ℕ → List ℕ
 oneNumber n = packed (1 wide n ∷ [])
 
 -- ---- a client record
-
-abbrev pub octetOfPhase : Phase → ℕ
-octetOfPhase Idle = 0
-octetOfPhase Waiting = 1
-octetOfPhase Stopped = 2
-
-abbrev pub octetOfFlag : Bool → ℕ
-octetOfFlag flag = cond flag 1 0
 
 abbrev pub recordNumbers : Client → List Number
 recordNumbers c =

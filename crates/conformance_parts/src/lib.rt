@@ -1,10 +1,12 @@
 // The parts of a conformance line, each at its place, and the numbers of its answer (docs/CONFORMANCE.md). Past the end of a line its octets are 0.
 ghost use mathlib.Core.Path.{_≡_};
 ghost use mathlib.Core.List.{[], _∷_};
-ghost use Rattle.conformance_parts.specs.Input.{timestampAt, tokenAt, signedAt, phaseOf, recordIn};
-ghost use Rattle.conformance_parts.specs.Numbers.{packed, filled, oneNumber, octetOfPhase, octetOfFlag, recordNumbers};
+ghost use Rattle.conformance_parts.specs.Input.{timestampAt, tokenAt, signedAt, recordIn};
+ghost use Rattle.conformance_parts.specs.Numbers.{packed, filled, oneNumber, recordNumbers};
 use client::Client;
-use client::Phase;
+use firmware_layouts::flag_octet;
+use firmware_layouts::phase_octet;
+use firmware_layouts::phase_of;
 use slices::octet_or_zero;
 use slices::read_be64;
 use timestamp::Timestamp;
@@ -29,18 +31,6 @@ pub fn token(line: &[u8], at: usize) -> Token
     ensures { λ r. ⌜ r ≡ tokenAt (now (line .entry)) at ⌝ }
 {
     Token(read_be64(line, at))
-}
-
-fn phase_of(octet: u8) -> Phase
-    ensures { λ r. ⌜ r ≡ phaseOf octet ⌝ }
-{
-    if octet == 0 {
-        return Phase::Idle;
-    }
-    if octet == 1 {
-        return Phase::Waiting;
-    }
-    Phase::Stopped
 }
 
 // The client record that a part of a line begins with.
@@ -80,33 +70,17 @@ pub fn one(number: u8) -> Numbers
     numbered(0x1, number, 0, 0, 0)
 }
 
-fn phase_octet(phase: Phase) -> u64
-    ensures { λ r. ⌜ r ≡ octetOfPhase phase ⌝ }
-{
-    match phase {
-        Phase::Idle => 0,
-        Phase::Waiting => 1,
-        Phase::Stopped => 2,
-    }
-}
-
-fn flag_octet(flag: bool) -> u64
-    ensures { λ r. ⌜ r ≡ octetOfFlag flag ⌝ }
-{
-    if flag { 1 } else { 0 }
-}
-
 pub fn record_numbers(client: Client) -> Numbers
     ensures { λ r. ⌜ r ≡ packed (recordNumbers client) ⌝ }
 {
     let phase = client.phase;
     [
         0x181_1881,
-        phase_octet(phase),
+        phase_octet(phase) as u64,
         client.t1.0,
         client.token.0,
         client.version as u64,
-        flag_octet(client.asked),
+        flag_octet(client.asked) as u64,
         client.uptime,
         client.exponent as u64,
         0,

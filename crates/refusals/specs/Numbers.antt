@@ -184,6 +184,10 @@ field-not-added = 44
 abbrev pub time-length-wrong : ℕ
 time-length-wrong = 45
 
+-- C: an image that is not 32 octets or that no legal record has, or an answer slice that is not 24
+abbrev pub image-not-legal : ℕ
+image-not-legal = 46
+
 -- replay line malformed
 abbrev pub line-malformed : ℕ
 line-malformed = 64
@@ -236,6 +240,7 @@ numbers =
     ∷ no-order
     ∷ field-not-added
     ∷ time-length-wrong
+    ∷ image-not-legal
     ∷ line-malformed
     ∷ []
 

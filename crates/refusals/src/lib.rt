@@ -137,11 +137,14 @@ pub const FIELD_NOT_ADDED: u8 = 44;
 // Time Protocol: a length to read other than 4, or a buffer under 4.
 pub const TIME_LENGTH_WRONG: u8 = 45;
 
+// C: an image that is not 32 octets or that no legal record has, or an answer slice that is not 24.
+pub const IMAGE_NOT_LEGAL: u8 = 46;
+
 // Replay line malformed.
 pub const LINE_MALFORMED: u8 = 64;
 
 // All of them, in the order of the rules' table.
-pub fn numbers() -> [u8; 46]
+pub fn numbers() -> [u8; 47]
     ensures { λ r. ⌜ r ≡ numbers ⌝ }
 {
     [
@@ -190,6 +193,7 @@ pub fn numbers() -> [u8; 46]
         NO_ORDER,
         FIELD_NOT_ADDED,
         TIME_LENGTH_WRONG,
+        IMAGE_NOT_LEGAL,
         LINE_MALFORMED,
     ]
 }

@@ -7,4 +7,4 @@ returns : tie.Need-returns
 returns c = rw (c .before .before .before .phase-octet .ensures, c .before .flag-octet .ensures)
 
 pub record-numbers-spec : {M : Type 1} → statement M
-record-numbers-spec = tie.close (tie.spec _ (λ c. search needs) _ (λ c. search needs) returns)
+record-numbers-spec = tie.close (tie.spec _ (λ c. search needs) (λ c. search needs) _ (λ c. search needs) (λ c. search needs) returns)

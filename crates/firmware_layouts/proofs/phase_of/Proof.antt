@@ -1,7 +1,7 @@
--- `conformance_parts::phase_of` meets its contract: each return is at its octet. Assumes nothing.
+-- `firmware_layouts::phase_of` meets its contract: each return is at its octet. Assumes nothing.
 use borrow.Author.Tests.{eq-eqb, ne-eqb}
-use Rattle.conformance_parts.proofs.phase_of.Statement.{statement}
-use Rattle.conformance_parts.proofs.phase_of.Tie as tie
+use Rattle.firmware_layouts.proofs.phase_of.Statement.{statement}
+use Rattle.firmware_layouts.proofs.phase_of.Tie as tie
 
 returns : tie.Need-returns
 returns c = rw (eq-eqb _ _ (c .if1 .taken))
