@@ -1,5 +1,5 @@
 -- Every call meets its form.
-use Rattle.demands.specs.Behaviour.{Operation, client, association, reply, broadcast, broadcastArrival, measure, read, write, begin, next, body, add, date, timestamp, unixTime, timestampOfUnix, writeCount, readCount, precision, entry, tick, line, form, ours}
+use Rattle.demands.specs.Behaviour.{Operation, client, association, reply, broadcast, broadcastArrival, measure, read, write, begin, next, body, add, date, timestamp, unixTime, timestampOfUnix, writeCount, readCount, precision, entry, tick, line, freshForC, clientForC, replyForC, form, ours}
 use Rattle.demands.proofs.Form.{Meets}
 use Rattle.demands.proofs.Client.{client-meets}
 use Rattle.demands.proofs.Reply.{reply-meets}
@@ -14,6 +14,7 @@ use Rattle.demands.proofs.Precision.{precision-meets}
 use Rattle.demands.proofs.Ledger.{entry-meets, tick-meets}
 use Rattle.demands.proofs.Line.{line-meets}
 use Rattle.demands.proofs.Associations.{associations-meets}
+use Rattle.demands.proofs.ForC.{fresh-meets, client-for-c-meets, reply-for-c-meets}
 
 pub each : (x : Operation) → Meets (form x) (ours .does x)
 each client = client-meets
@@ -38,3 +39,6 @@ each precision = precision-meets
 each entry = entry-meets
 each tick = tick-meets
 each line = line-meets
+each freshForC = fresh-meets
+each clientForC = client-for-c-meets
+each replyForC = reply-for-c-meets

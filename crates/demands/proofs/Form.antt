@@ -235,7 +235,7 @@ module _ {F : Form} {f : Implementation F} (m : Meets F f) (W : Wrapper F) where
   mapped h (does o) g e = ap (mapGiven h) e
   mapped h (refuses n) g e = ap (mapGiven h) e
 
-  map-listed : {A B : Type 0} (h : A → B) (r : Rules A) → T (numbered listed r) → T (numbered listed (mapRules h r))
+  pub map-listed : {A B : Type 0} (h : A → B) (r : Rules A) → T (numbered listed r) → T (numbered listed (mapRules h r))
   map-listed h (n unless P then rest) l =
       let (first, others) = and-yes (listed n) (numbered listed rest) l in
       yes-and (listed n) (numbered listed (mapRules h rest)) first (map-listed h rest others)
@@ -243,7 +243,7 @@ module _ {F : Form} {f : Implementation F} (m : Meets F f) (W : Wrapper F) where
   map-listed h (does o) l = tt
   map-listed h (refuses n) l = l
 
-  map-each : {A B : Type 0} (h : A → B) (Q : B → Type 0) (r : Rules A) → Each (λ a. Q (h a)) r → Each Q (mapRules h r)
+  pub map-each : {A B : Type 0} (h : A → B) (Q : B → Type 0) (r : Rules A) → Each (λ a. Q (h a)) r → Each Q (mapRules h r)
   map-each h Q (n unless P then rest) a = map-each h Q rest a
   map-each h Q (o provided P else rest) (first, others) = (first, map-each h Q rest others)
   map-each h Q (does o) a = a

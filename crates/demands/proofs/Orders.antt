@@ -37,4 +37,9 @@ orders = record {
   precisions = λ n. record { in-table = refl; in-rules = refl };
   entries = λ x. record { in-table = refl; in-rules = refl };
   ticks = λ x. record { in-table = refl; in-rules = refl };
+  image-ask = λ image buffer version clock token uptime. record { in-table = refl; in-rules = refl };
+  image-arrival = λ image answer t4 alternate packet. record { in-table = refl; in-rules = refl };
+  image-give-up = λ image uptime. record { in-table = refl; in-rules = refl };
+  image-fresh = λ image. record { in-table = refl; in-rules = refl };
+  server-for-c = λ x. record { in-table = refl; in-rules = refl };
 }

@@ -1,6 +1,6 @@
 -- The order of each call's tests, those of docs/RULES.md, as lists of numbers, in one place. The checker computes that each call's rules, which the demands go by, and
 -- its table of tests, which the contracts of the code go by, have it.
-use Prim.Native.Nat.{ℕ}
+use Prim.Native.Nat.{ℕ, min}
 use mathlib.Core.Path.{_≡_}
 use mathlib.Core.List.{List, [], _∷_, _++_}
 use lib.ListN.{length, drop}
@@ -26,6 +26,10 @@ use Rattle.association_rules.specs.Associations.{listTests, association}
 use Rattle.server.specs.Server.{replyTests}
 use Rattle.broadcast.specs.Broadcast as broadcasts
 use Rattle.ledger.specs.Ledger.{entryTests, tickTests}
+use Rattle.timestamp.specs.Timestamp as timestamps-of
+use Rattle.token.specs.Token as tokens
+use Rattle.firmware_layouts.specs.Image.{recordIn}
+use Rattle.firmware.specs.Client as firmware
 use Rattle.demands.specs.Form.{Rules, _unless_then_, _provided_else_, does, refuses}
 use Rattle.demands.specs.Ask.{askRules}
 use Rattle.demands.specs.Arrival.{arrivalRules}
@@ -45,6 +49,7 @@ use Rattle.demands.specs.TimeProtocol.{CountToWrite, writeCount, readCou
 use Rattle.demands.specs.Precision.{precision}
 use Rattle.demands.specs.Reply.{Request, reply}
 use Rattle.demands.specs.Broadcast.{Broadcast, broadcast, BroadcastArrival, broadcastArrival}
+use Rattle.demands.specs.ForC.{clientForC, freshForC, RequestForC, innerRequest, replyForC}
 use Rattle.demands.specs.Entry.{Entry, entry}
 use Rattle.demands.specs.Tick.{Tick, tick}
 
@@ -76,6 +81,10 @@ giveUpOrder = tests (29 ∷ 8 ∷ 20 ∷ [])
 abbrev pub listOrder : List Place
 listOrder = tests (35 ∷ 29 ∷ [])
 
+-- before each of them, for C on an image
+abbrev pub imageOrder : List Place
+imageOrder = tests (46 ∷ [])
+
 -- 14, 43 and 17 when synchronised
 abbrev pub replyOrder : List Place
 replyOrder = tests (1 ∷ 7 ∷ 21 ∷ 22 ∷ 23 ∷ 14 ∷ 43 ∷ 17 ∷ [])
@@ -86,6 +95,9 @@ broadcastOrder = tests (1 ∷ 22 ∷ 23 ∷ 41 ∷ 14 ∷ [])
 
 abbrev pub broadcastArrivalOrder : List Place
 broadcastArrivalOrder = tests (7 ∷ 36 ∷ 37 ∷ 38 ∷ 39 ∷ 40 ∷ 3 ∷ 43 ∷ [])
+
+abbrev pub freshOrder : List Place
+freshOrder = tests (46 ∷ [])
 
 abbrev pub readOrder : List Place
 readOrder = tests (7 ∷ [])
@@ -179,3 +191,17 @@ pub record Orders : Type 0 where
   pub precisions : (n : ℕ) → Both precisionOrder (precisionTests n) (precision .rules n)
   pub entries : (x : Entry) → Both entryOrder (entryTests (x .ledger) (x .offset) (x .half)) (entry .rules x)
   pub ticks : (x : Tick) → Both tickOrder (tickTests (x .ledger) (x .limit)) (tick .rules x)
+  pub image-ask : (image buffer : List ℕ) (version clock token uptime : ℕ)
+      → Both (imageOrder ++ askOrder)
+      (firmware.imageTests image (firmware.ask buffer version clock token uptime)
+      (askTests (recordIn image) (length buffer) (min version 255) (timestamps-of.timestamp clock) (tokens.token token) uptime))
+      (clientForC .rules (record { image = image; call = firmware.ask buffer version clock token uptime }))
+  pub image-arrival : (image answer : List ℕ) (t4 alternate : ℕ) (packet : List ℕ)
+      → Both (imageOrder ++ arrivalOrder) (firmware.imageTests image (firmware.arrival answer t4 alternate packet) (arrivalTests (recordIn image) packet (timestamps-of.timestamp t4)))
+      (clientForC .rules (record { image = image; call = firmware.arrival answer t4 alternate packet }))
+  pub image-give-up : (image : List ℕ) (uptime : ℕ)
+      → Both (imageOrder ++ giveUpOrder) (firmware.imageTests image (firmware.giveUp uptime) (giveUpTests (recordIn image) uptime))
+      (clientForC .rules (record { image = image; call = firmware.giveUp uptime }))
+  pub image-fresh : (image : List ℕ) → Both freshOrder (firmware.freshTests image) (freshForC .rules image)
+  pub server-for-c : (x : RequestForC)
+      → Both replyOrder (replyTests (innerRequest x .settings) (x .request) (innerRequest x .t2) (innerRequest x .t3) (x .buffer)) (replyForC .rules x)

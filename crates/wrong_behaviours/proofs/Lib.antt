@@ -1,2 +1,3 @@
 pub mod Exchanges
+pub mod ForC
 pub mod Refuted

@@ -1,3 +1,4 @@
 pub mod Client
 pub mod Others
+pub mod ForC
 pub mod Refuted

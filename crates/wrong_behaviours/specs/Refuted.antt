@@ -12,7 +12,7 @@ use Rattle.demands.specs.Client as clients
 use Rattle.demands.specs.Reply as replies
 use Rattle.demands.specs.Reply.{Request}
 use Rattle.demands.specs.Line.{carrying}
-use Rattle.demands.specs.Behaviour.{Operation, client, association, reply, broadcast, broadcastArrival, measure, read, write, begin, next, body, add, date, timestamp, unixTime, timestampOfUnix, writeCount, readCount, precision, entry, tick, line, form, Behaviour, ours}
+use Rattle.demands.specs.Behaviour.{Operation, client, association, reply, broadcast, broadcastArrival, measure, read, write, begin, next, body, add, date, timestamp, unixTime, timestampOfUnix, writeCount, readCount, precision, entry, tick, line, freshForC, clientForC, replyForC, form, Behaviour, ours}
 use Rattle.demands.specs.Demand2.{Demand2}
 use Rattle.demands.specs.Demand3.{Demand3}
 use Rattle.demands.specs.Ticks.{Ticks}
@@ -20,6 +20,7 @@ use Rattle.demands.specs.SingleServer.{NeverStops}
 use Rattle.demands.specs.Wire.{ClockUnseen}
 use Rattle.wrong_behaviours.specs.Client.{laterStart, refusing, alwaysWriting, anyVersion, sendingClock, takingNone, stayingWaiting, spending, alwaysStopping, neverStopping, anyTail, withoutFields, kissFirst, anyOriginate, unsignedTimes, rootUntested, negativeDelayUntested, dispersionSigned, rootSwapped, rootAfter15, fixing, measuring, zeroOffset, hugeDelay, halfLost, largeHalf, towardZero, halvedApart}
 use Rattle.wrong_behaviours.specs.Others.{preferringFirst, forgettingUse, answeringZero, neverReplying, wrongOriginate, replyingAnyway, measuringHalfCircle, reversingHalfCircle, tellingHalfCircle, readingNothing, writingNothing, fourthYearDates, fourthYearTimestamps, nearestNanosecond, since1900, fractionDown, windowFirst, littleEndian, readingLonger, roundedDown, refusingEntries, takingEntries, payingAll, refusingLines, droppingDigits, startingAfresh}
+use Rattle.wrong_behaviours.specs.ForC.{clearingAnswer, startingOver, testingLate, cuttingVersion, cuttingLeap}
 
 -- ours with this client
 abbrev clientOf : Implementation clients.client → (x : Operation) → Implementation (form x)
@@ -45,6 +46,9 @@ clientOf f precision = ours .does precision
 clientOf f entry = ours .does entry
 clientOf f tick = ours .does tick
 clientOf f line = through clients.client carrying f
+clientOf f freshForC = ours .does freshForC
+clientOf f clientForC = ours .does clientForC
+clientOf f replyForC = ours .does replyForC
 
 abbrev pub withClient : Implementation clients.client → Behaviour
 withClient f = record { fresh = ours .fresh; opened = ours .opened; does = clientOf f }
@@ -73,6 +77,9 @@ serverOf f precision = ours .does precision
 serverOf f entry = ours .does entry
 serverOf f tick = ours .does tick
 serverOf f line = ours .does line
+serverOf f freshForC = ours .does freshForC
+serverOf f clientForC = ours .does clientForC
+serverOf f replyForC = ours .does replyForC
 
 abbrev pub withServer : Implementation replies.reply → Behaviour
 withServer f = record { fresh = ours .fresh; opened = ours .opened; does = serverOf f }
@@ -167,3 +174,9 @@ pub record Refuted : Type 0 where
   pub refuses-every-line : Fails2 line refusingLines
   pub accepts-odd-digits : Fails2 line droppingDigits
   pub starts-afresh : Fails1 line startingAfresh
+  -- the calls for C
+  pub clears-answer : Fails1 clientForC clearingAnswer
+  pub starts-over : Fails1 clientForC startingOver
+  pub tests-late : Fails2 clientForC testingLate
+  pub cuts-version : Fails2 clientForC cuttingVersion
+  pub cuts-leap : Fails2 replyForC cuttingLeap
