@@ -1,7 +1,8 @@
-// A reply that arrives at a client by itself, or at a record of a list of eight, each time at another clock reading.
+// A reply that arrives at a client by itself, or at a record of a list of eight, each time at another clock reading; and the server's reply, each time sent at another.
 ghost use Prim.Native.Nat.{_<_, _^_};
 use client::Client;
 use reply_checks::ArrivalAnswer;
+use server::ReplyAnswer;
 use server_packet::Settings;
 use timestamp::Timestamp;
 use token::Token;
@@ -15,17 +16,35 @@ pub(crate) fn waiting(request: &mut [u8]) -> Client {
     called.client
 }
 
-// The reply to its request, at once.
-pub(crate) fn reply(request: &[u8], packet: &mut [u8]) {
-    let settings = Settings {
+fn settings() -> Settings {
+    Settings {
         synchronised: true,
         leap: 0,
         precision: -20,
         identifier: 0x4750_5300,
         reference: Timestamp::from_seconds(4, 0),
-    };
+    }
+}
+
+// The reply to its request, at once.
+pub(crate) fn reply(request: &[u8], packet: &mut [u8]) {
     let t2 = Timestamp::from_units(T1);
-    server::reply(settings, request, t2, t2, packet);
+    server::reply(settings(), request, t2, t2, packet);
+}
+
+// The last octet of a reply.
+pub(crate) fn reply_value(request: &[u8], i: u64) -> u64
+    requires { ⌜ i < 10000000 ⌝ }
+    ensures { λ r. ⌜ r < 2 ^ 40 ⌝ }
+{
+    let mut packet = [0u8; 48];
+    let t2 = Timestamp::from_units(T1);
+    let t3 = Timestamp::from_units(T1 + i);
+    let answer = server::reply(settings(), request, t2, t3, &mut packet);
+    match answer {
+        ReplyAnswer::Refused(number) => number as u64,
+        ReplyAnswer::Written => slices::octet_or_zero(&packet, 47) as u64,
+    }
 }
 
 fn value(answer: ArrivalAnswer) -> u64

@@ -1,5 +1,5 @@
 // Does one thing ten million times, and writes the sum of what it gave, modulo 2^32. The first character of standard input says what: D timestamps to dates,
-// T dates to timestamps, M exchanges measured, C a reply that arrives at a client by itself, anything else one at a record of a list of eight.
+// T dates to timestamps, M exchanges measured, C a reply that arrives at a client by itself, R a server's reply, anything else an arrival at a record of a list of eight.
 // `tests/benchmark` compares the times.
 mod arrivals;
 mod dates;
@@ -8,6 +8,7 @@ mod exchanges;
 ghost use Prim.Native.Nat.{_<_, _^_};
 use arrivals::client_value;
 use arrivals::list_value;
+use arrivals::reply_value;
 use client::Client;
 use dates::date_value;
 use dates::dates;
@@ -21,7 +22,14 @@ use libc::STDOUT_FILENO;
 
 const COUNT: u64 = 10_000_000;
 
-fn value(what: u8, client: Client, packet: &[u8], block: &[u64; LENGTH], i: u64) -> u64
+fn value(
+    what: u8,
+    client: Client,
+    request: &[u8],
+    packet: &[u8],
+    block: &[u64; LENGTH],
+    i: u64,
+) -> u64
     requires { ⌜ i < 10000000 ⌝ }
     ensures { λ r. ⌜ r < 2 ^ 40 ⌝ }
 {
@@ -30,14 +38,15 @@ fn value(what: u8, client: Client, packet: &[u8], block: &[u64; LENGTH], i: u64)
         b'T' => timestamp_value(block, i),
         b'M' => exchange_value(block, i),
         b'C' => client_value(client, packet, i),
+        b'R' => reply_value(request, i),
         _ => list_value(client, packet, i),
     }
 }
 
-fn sum_of(what: u8, client: Client, packet: &[u8], block: &[u64; LENGTH]) -> u64 {
+fn sum_of(what: u8, client: Client, request: &[u8], packet: &[u8], block: &[u64; LENGTH]) -> u64 {
     let mut sum = 0;
     for i in 0..COUNT {
-        sum = (sum + value(what, client, packet, block, i)) % 0x1_0000_0000;
+        sum = (sum + value(what, client, request, packet, block, i)) % 0x1_0000_0000;
     }
     sum
 }
@@ -60,6 +69,9 @@ fn main() {
         _ => exchanges(),
     };
     let mut out = [0u8; 17];
-    put_sum(&mut out, sum_of(block[0], client, &packet, &in_memory));
+    put_sum(
+        &mut out,
+        sum_of(block[0], client, &request, &packet, &in_memory),
+    );
     io::write_all(STDOUT_FILENO, &out);
 }

@@ -1,7 +1,8 @@
 // Reads lines from standard input and writes one answer a line to standard output: of docs/CONFORMANCE.md the operations that have long lines and answers, on lists of
-// records, 0E, 0F and 10, and on extension fields, 13 and 14. To any other line the answer is 40.
+// records, 0E, 0F and 10, on extension fields, 13 and 14, and for C, 19 to 1D. To any other line the answer is 40.
 mod adding;
 mod answer;
+mod for_c;
 mod lists;
 mod output;
 mod reading;
@@ -25,6 +26,9 @@ fn answer_line(answer: &mut Answer, complete: bool, line: &[u8]) -> usize {
     }
     if complete & (0x0E <= operation) & (operation <= 0x10) {
         return lists::answer_line(answer, operation, line);
+    }
+    if complete & (0x19 <= operation) & (operation <= 0x1D) {
+        return for_c::answer_line(answer, operation, line);
     }
     answer::store_malformed(answer)
 }

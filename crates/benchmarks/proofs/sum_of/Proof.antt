@@ -5,10 +5,10 @@ use Rattle.benchmarks.proofs.sum_of.Statement.{statement}
 use Rattle.benchmarks.proofs.sum_of.Tie as tie
 
 abbrev Inv-loop : tie.InvT-loop
-Inv-loop what client packet block sum₀ i₀ sum i = (sum < 2 ^ 32) × (i ≤ 10000000)
+Inv-loop what client request packet block sum₀ i₀ sum i = (sum < 2 ^ 32) × (i ≤ 10000000)
 
 abbrev μ-loop : tie.MeasureT-loop
-μ-loop what client packet block sum₀ i₀ sum i = 10000000 - i
+μ-loop what client request packet block sum₀ i₀ sum i = 10000000 - i
 
 pub sum-of-spec : {M : Type 1} → statement M
 sum-of-spec =
