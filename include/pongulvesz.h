@@ -1,0 +1,107 @@
+/* Pongulvesz for C: an SNTP client and server (RFC 4330) on plain numbers and octets. C99, and usable from C++.
+ *
+ * Everything that these functions decide is proved; docs/C.md has the layouts, what a caller must see to, and a whole
+ * exchange. Every function returns 0, or the number of a refusal. A refused call changes no octet of what it was lent.
+ *
+ * A slice is a pointer and its length in octets. The pointer is valid for that length and not NULL, also where the length
+ * is 0; slices of one call do not overlap; nobody else writes them during the call. A timestamp is NTP's, of 64 bits:
+ * seconds in the upper half, their fraction in the lower. An uptime is in whole seconds, of a clock that is never set. */
+#ifndef PONGULVESZ_H
+#define PONGULVESZ_H
+
+#include <stddef.h>
+#include <stdint.h>
+
+#ifdef __cplusplus
+extern "C" {
+#endif
+
+/* Lengths in octets: of an image, of an answer, and of what ask and reply write. */
+#define PONGULVESZ_IMAGE 32
+#define PONGULVESZ_ANSWER 24
+#define PONGULVESZ_PACKET 48
+
+/* Octet 0 of an answer. */
+#define PONGULVESZ_ACCEPTED 1
+#define PONGULVESZ_KISS 2
+
+/* The numbers of refusals, as docs/RULES.md lists them. */
+#define PONGULVESZ_BUFFER_TOO_SHORT 1
+#define PONGULVESZ_VERSION_UNSUPPORTED 2
+#define PONGULVESZ_OWN_CLOCK_ZERO 3
+#define PONGULVESZ_CLIENT_STOPPED 4
+#define PONGULVESZ_ALREADY_WAITING 5
+#define PONGULVESZ_ASKED_TOO_SOON 6
+#define PONGULVESZ_PACKET_LENGTH_WRONG 7
+#define PONGULVESZ_NOT_WAITING 8
+#define PONGULVESZ_ORIGINATE_MISMATCH 9
+#define PONGULVESZ_REPLY_MODE_WRONG 10
+#define PONGULVESZ_VERSION_MISMATCH 11
+#define PONGULVESZ_SERVER_UNSYNCHRONISED 12
+#define PONGULVESZ_STRATUM_TOO_HIGH 13
+#define PONGULVESZ_SERVER_TIMESTAMP_ZERO 14
+#define PONGULVESZ_ARRIVED_BEFORE_SENT 15
+#define PONGULVESZ_ARRIVED_TOO_LATE 16
+#define PONGULVESZ_ANSWERED_BEFORE_RECEIVED 17
+#define PONGULVESZ_DELAY_NEGATIVE 18
+#define PONGULVESZ_FIRST_BELOW_SECOND 19
+#define PONGULVESZ_GAVE_UP_TOO_SOON 20
+#define PONGULVESZ_REQUEST_MODE_WRONG 21
+#define PONGULVESZ_REQUEST_VERSION_UNSUPPORTED 22
+#define PONGULVESZ_SETTINGS_OUT_OF_RANGE 23
+#define PONGULVESZ_TIMESTAMP_ZERO 24
+#define PONGULVESZ_NO_SUCH_DATE 25
+#define PONGULVESZ_OUTSIDE_WINDOW 26
+#define PONGULVESZ_FIELD_TOO_LARGE 27
+#define PONGULVESZ_TICK_OUT_OF_RANGE 28
+#define PONGULVESZ_RECORD_NOT_LEGAL 29
+#define PONGULVESZ_ENTRY_TOO_LARGE 30
+#define PONGULVESZ_DEBT_TOO_LARGE 31
+#define PONGULVESZ_LIMIT_OUT_OF_RANGE 32
+#define PONGULVESZ_ROOT_DELAY_OUT_OF_RANGE 33
+#define PONGULVESZ_ROOT_DISPERSION_TOO_LARGE 34
+#define PONGULVESZ_NOT_IN_LIST 35
+#define PONGULVESZ_BROADCAST_MODE_WRONG 36
+#define PONGULVESZ_BROADCAST_VERSION_UNSUPPORTED 37
+#define PONGULVESZ_BROADCAST_UNSYNCHRONISED 38
+#define PONGULVESZ_BROADCAST_STRATUM_WRONG 39
+#define PONGULVESZ_BROADCAST_TRANSMIT_ZERO 40
+#define PONGULVESZ_POLL_OUT_OF_RANGE 41
+#define PONGULVESZ_TOKEN_ZERO 42
+#define PONGULVESZ_NO_ORDER 43
+#define PONGULVESZ_FIELD_NOT_ADDED 44
+#define PONGULVESZ_TIME_LENGTH_WRONG 45
+#define PONGULVESZ_IMAGE_NOT_LEGAL 46
+#define PONGULVESZ_LINE_MALFORMED 64
+
+/* Writes the image of a client that has never asked: 32 octets, all zero. Refusals: 46 where image_length is not 32. */
+uint32_t pongulvesz_fresh(uint8_t *image, size_t image_length);
+
+/* Asks: writes the 48 octets of a request into the buffer, for the caller to send. The version is 1 to 4, clock the
+ * reading of the client's clock now (T1), token a number that nobody can guess and that is used once. Refusals, in order:
+ * 46, 1, 2, 3, 42, 4, 5, 6. */
+uint32_t pongulvesz_ask(uint8_t *image, size_t image_length, uint8_t *buffer, size_t buffer_length, uint32_t version,
+                        uint64_t clock, uint64_t token, uint64_t uptime);
+
+/* A packet has come in, and the client's clock read t4. alternate tells whether another server can be asked: 0 is no. The
+ * answer has 24 octets: the kind, the half, the row of a kiss, zero, four octets of its code, the offset (8) and the delay
+ * (8), in units of 2^-32 s, big-endian, two's complement. Refusals, in order: 46, 7, 8, 9, 10, 11, then for what is not a
+ * kiss 3, 12, 13, 14, 33, 34, 43, 15, 16, 43, 17, 18, 43, 43, 19. */
+uint32_t pongulvesz_arrival(uint8_t *image, size_t image_length, uint8_t *answer, size_t answer_length, uint64_t t4,
+                            uint32_t alternate, const uint8_t *packet, size_t packet_length);
+
+/* Gives up waiting for the reply, and backs off. Refusals, in order: 46, 8, 20. */
+uint32_t pongulvesz_give_up(uint8_t *image, size_t image_length, uint64_t uptime);
+
+/* Replies: writes the 48 octets of the server's reply to a request into the buffer. synchronised is 0 for no; leap is 0 to
+ * 2, precision -32 to 0 (an exponent of 2, in seconds); reference is when the server's clock was last set, t2 when the
+ * request came in, t3 when the reply is sent. Refusals, in order: 1, 7, 21, 22, 23, and when synchronised 14, 43, 17. */
+uint32_t pongulvesz_reply(uint32_t synchronised, uint32_t leap, int32_t precision, uint32_t identifier,
+                          uint64_t reference, uint64_t t2, uint64_t t3, uint8_t *buffer, size_t buffer_length,
+                          const uint8_t *request, size_t request_length);
+
+#ifdef __cplusplus
+}
+#endif
+
+#endif
