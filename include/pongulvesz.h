@@ -74,6 +74,110 @@ extern "C" {
 #define PONGULVESZ_IMAGE_NOT_LEGAL 46
 #define PONGULVESZ_LINE_MALFORMED 64
 
+/* What a number means, in words; NULL of a number that no call returns. */
+static inline const char *pongulvesz_words(uint32_t number) {
+    switch (number) {
+    case 0:
+        return "not refused";
+    case 1:
+        return "buffer under 48 octets";
+    case 2:
+        return "asked version not 1 to 4";
+    case 3:
+        return "own clock reading zero";
+    case 4:
+        return "client stopped";
+    case 5:
+        return "already waiting";
+    case 6:
+        return "asked before, and uptime is below that uptime or less than 2^exponent s past it";
+    case 7:
+        return "shorter than 48 octets, longer than 1024, or a tail that breaks the rules of \"Extension fields\"";
+    case 8:
+        return "not waiting";
+    case 9:
+        return "originate differs from the request's token";
+    case 10:
+        return "mode not 4";
+    case 11:
+        return "version differs from the request's";
+    case 12:
+        return "LI 3";
+    case 13:
+        return "stratum above 15";
+    case 14:
+        return "receive or transmit zero, in broadcast transmit alone";
+    case 15:
+        return "T4 - T1 negative";
+    case 16:
+        return "T4 - T1 above 2^36";
+    case 17:
+        return "T3 - T2 negative";
+    case 18:
+        return "d negative";
+    case 19:
+        return "P below Q";
+    case 20:
+        return "uptime below the request's, or under 16 s past it";
+    case 21:
+        return "request mode not 3";
+    case 22:
+        return "request version, or the version set for a broadcast, not 1 to 4";
+    case 23:
+        return "set LI not 0 to 2, or set precision not in -32 to 0";
+    case 24:
+        return "timestamp zero, also one that a date or a Unix time would have";
+    case 25:
+        return "no such date or time, or nanoseconds of 10^9 or more";
+    case 26:
+        return "outside 1968-01-20 03:14:08 to 2104-02-26 09:42:23, fractions included";
+    case 27:
+        return "field to write too large (LI over 3, VN or mode over 7)";
+    case 28:
+        return "tick zero or above 2^32";
+    case 29:
+        return "record handed in not legal";
+    case 30:
+        return "half not 0 or 1, or an entry of 2^41 half units or more in size";
+    case 31:
+        return "the debt would reach 2^50 half units in size";
+    case 32:
+        return "limit not 1 to 2^32 half units";
+    case 33:
+        return "root delay, signed, negative or 65536 or more (one second, with 16 fraction bits)";
+    case 34:
+        return "root dispersion, unsigned, 65536 or more";
+    case 35:
+        return "list of records empty or of more than eight, or a record number, the one in use included, not in it";
+    case 36:
+        return "broadcast packet: mode not 5";
+    case 37:
+        return "broadcast packet: VN not 1 to 4";
+    case 38:
+        return "broadcast packet: LI 3";
+    case 39:
+        return "broadcast packet: stratum not 1 to 15";
+    case 40:
+        return "broadcast packet: transmit timestamp zero";
+    case 41:
+        return "set poll not 4 to 14";
+    case 42:
+        return "token zero";
+    case 43:
+        return "the difference that is tested next is of two timestamps exactly 2^63 units apart";
+    case 44:
+        return "extension field not added: an authenticator at the end of the packet, or no room in the buffer or in 1024 octets";
+    case 45:
+        return "Time Protocol: a length to read other than 4, or a buffer under 4";
+    case 46:
+        return "C: an image that is not 32 octets or that no legal record has, or an answer slice that is not 24";
+    case 64:
+        return "replay line malformed";
+    default:
+        return NULL;
+    }
+}
+
 /* Writes the image of a client that has never asked: 32 octets, all zero. Refusals: 46 where image_length is not 32. */
 uint32_t pongulvesz_fresh(uint8_t *image, size_t image_length);
 
