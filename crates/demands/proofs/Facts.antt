@@ -9,6 +9,7 @@ use lib.Dec.{T, ltb, eqb}
 use lib.IntN.{ℤ}
 use lib.ListN.{length, drop}
 use mir.Facts.{eqb-yes, yes-eqb}
+use Rattle.refusals.specs.Numbers.{listed}
 use Rattle.ordered_tests.proofs.Reflection.{WhereTrue, WhereFalse, refuted, is-true, is-false, at-least}
 use Rattle.timestamp.specs.declared.Timestamp.{Timestamp}
 use Rattle.timestamp.specs.Timestamp.{timestamp, isZero, noOrder}
@@ -115,3 +116,9 @@ stopped = phase isStopped Stopped tt alone
 pub late : (since seconds uptime : ℕ) → WhereFalse (since + seconds ≤ uptime) (tooSoon since seconds uptime)
 unfolding tooSoon
 late since seconds uptime = at-least uptime (since + seconds)
+
+-- ---- numbers
+
+-- 0 is not listed
+pub some : (n : ℕ) → T (listed n) → n ≢ 0
+some n l e = rw e at l

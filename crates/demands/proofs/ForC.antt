@@ -26,14 +26,14 @@ use Rattle.demands.specs.Client.{callRules, client}
 use Rattle.demands.specs.Reply.{Request, reply}
 use Rattle.demands.specs.ForC.{FreshOutcome, shownNumber, freshForC, ours-fresh, ImageCall, ImageOutcome, IsImage, SlicesFit, Admitted, lentAfter, kindOf, shown, clientForC, ours-client, RequestForC, innerRequest, replying, replyForC, ours-reply}
 use Rattle.ordered_tests.proofs.Reflection.{WhereTrue, negated, conjoined, is-true, equal}
+use Rattle.demands.proofs.Facts.{some}
 use Rattle.demands.proofs.Form.{Meets, Each, Accepted, ShownAs, _and_, end, by, acceptance-shown, kiss-shown, table-answers, map-listed, map-each, wrapped-meets, Leads, _before_, inner, led, same-program}
 use Rattle.demands.proofs.Legal.{legal-tested}
 use Rattle.demands.proofs.Client.{client-meets}
 use Rattle.demands.proofs.Reply.{reply-meets}
 
--- 0 is not listed
-pub not-0 : (n : ℕ) → T (listed n) → eqb n 0 ≡ false
-not-0 n l = ne-eqb n 0 λ e. rw e at l
+not-0 : (n : ℕ) → T (listed n) → eqb n 0 ≡ false
+not-0 n l = ne-eqb n 0 (some n l)
 
 number-shown : (n : ℕ) → T (listed n) → ShownAs n (shownNumber n)
 number-shown n l = rw (not-0 n l) (by 0 n)

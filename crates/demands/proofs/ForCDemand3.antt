@@ -35,13 +35,14 @@ use Rattle.demands.specs.Demand3 as inner-demand
 use Rattle.demands.specs.Demand3.{Permitted}
 use Rattle.demands.specs.ForCDemand3.{AllPermitted, Run, IsRefused, after, AllRefused, theAsk, request, theReply, theArrival, Premises, Conclusions, Demand3ForC}
 use Rattle.ordered_tests.proofs.Reflection.{is-true}
+use Rattle.demands.proofs.Facts.{some}
 use Rattle.demands.proofs.Form.{Accepted, either, facts, outcome-in}
 use Rattle.demands.proofs.Legal.{waiting-legal, legal-tested}
 use Rattle.demands.proofs.Client.{client-meets}
 use Rattle.demands.proofs.Between as between
 use Rattle.demands.proofs.Served.{Asked, asked-is}
 use Rattle.demands.proofs.Demand3.{demand3}
-use Rattle.demands.proofs.ForC.{not-0, not-refusal, client-for-c-meets, agrees, not-admitted, refused-in, admitted-tested}
+use Rattle.demands.proofs.ForC.{not-refusal, client-for-c-meets, agrees, not-admitted, refused-in, admitted-tested}
 
 -- ---- a call that returns 0
 
@@ -55,11 +56,8 @@ admitted-at-0 i e = facts client-for-c-meets i (kind-at-0 (ours .does clientForC
 inner-accepted : (c : Client) (x : calls.Call) → numberOf (ours .does client (c, x) .result) ≡ 0 → form client .shown (ours .does client (c, x)) .kind ≢ refusal
 inner-accepted c x =
     either client-meets (c, x) (λ o. numberOf (o .result) ≡ 0 → form client .shown o .kind ≢ refusal)
-    (λ n l g e. absurd (eqb-0 n l e))
+    (λ n l g e. absurd (some n l e))
     (λ o q e. outcome-in (Accepted (form client)) (callRules c x) o (client-meets .proper .others (c, x)) q .0)
-  where
-    eqb-0 : (n : ℕ) → T (listed n) → n ≡ 0 → ⊥
-    eqb-0 n l e = rw e at l
 
 -- ---- the calls in between, on the image of a record that waits
 

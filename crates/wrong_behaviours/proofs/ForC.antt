@@ -5,6 +5,7 @@ use mathlib.Core.List.{List, [], _∷_, _++_}
 use lib.Dec.{T, eqb}
 use lib.IntN.{pos}
 use lib.ListN.{getD, replicate}
+use Rattle.arithmetic.specs.Octets.{octets}
 use Rattle.slices.specs.Slices.{readAt}
 use Rattle.extension.specs.Reading as tails
 use Rattle.packet.specs.Packet.{fieldsOf}
@@ -21,11 +22,11 @@ use Rattle.firmware_layouts.specs.Answer.{answerIn}
 use Rattle.firmware.specs.Client as firmware
 use Rattle.firmware.specs.Client.{LentCall, ask, arrival, giveUp}
 use Rattle.demands.specs.ForC.{ImageCall, ImageOutcome}
-use Rattle.demands.specs.Behaviour.{clientForC, replyForC, form}
+use Rattle.demands.specs.Behaviour.{freshForC, clientForC, replyForC, form}
 use Rattle.demands.proofs.Form.{differs}
 use Rattle.demands.proofs.Each.{each}
 use Rattle.wrong_behaviours.specs.Refuted.{Fails1, Fails2}
-use Rattle.wrong_behaviours.specs.ForC.{clearingAnswer, startingOver, testingLate, cuttingVersion, cuttingLeap}
+use Rattle.wrong_behaviours.specs.ForC.{freshOfImages, freshWritingNothing, clearingAnswer, startingOver, testingLate, cuttingVersion, cuttingLeap}
 
 -- the image of a client that has never asked, and of an idle one that has
 abbrev fresh-image : List ℕ
@@ -36,6 +37,15 @@ idle-image = 0 ∷ 0 ∷ 1 ∷ replicate 29 0
 
 abbrev on : List ℕ → LentCall → ImageCall
 on image x = record { image = image; call = x }
+
+-- 32 octets of which no legal record has the first
+pub fresh-of-images : Fails2 freshForC freshOfImages
+unfolding isImage hasLegalValues
+fresh-of-images = differs (each freshForC .answers) (replicate 32 3) (λ o. eqb (o .number) 46) tt tt
+
+pub fresh-writes-nothing : Fails2 freshForC freshWritingNothing
+unfolding imageOf octets
+fresh-writes-nothing = differs (each freshForC .answers) (replicate 32 3) (λ o. eqb (getD (o .image) 0 0) 3) tt tt
 
 -- an arrival of no octets, with an answer slice of ones
 pub clears-answer : Fails1 clientForC clearingAnswer

@@ -73,7 +73,7 @@ use Rattle.demands.proofs.Form.{acceptance-shown, differs, unique}
 use Rattle.demands.proofs.Each.{each}
 use Rattle.demands.proofs.Demand3.{follows}
 use Rattle.wrong_behaviours.specs.Client.{refusing, alwaysWriting, anyVersion, sendingClock, takingNone, stayingWaiting, spending, alwaysStopping, neverStopping, anyTail, withoutFields, kissFirst, anyOriginate, unsignedTimes, rootUntested, negativeDelayUntested, dispersionSigned, rootSwapped, rootAfter15, fixing, measuring, zeroOffset, hugeDelay, halfLost, largeHalf, towardZero, halvedApart}
-use Rattle.wrong_behaviours.proofs.ForC.{clears-answer, starts-over, tests-late, cuts-version, cuts-leap}
+use Rattle.wrong_behaviours.proofs.ForC.{fresh-of-images, fresh-writes-nothing, clears-answer, starts-over, tests-late, cuts-version, cuts-leap}
 use Rattle.wrong_behaviours.specs.Others.{preferringFirst, forgettingUse, answeringZero, neverReplying, wrongOriginate, measuringHalfCircle, reversingHalfCircle, tellingHalfCircle, fourthYearDates, fourthYearTimestamps, nearestNanosecond, since1900, fractionDown, windowFirst, roundedDown, takingEntries, payingAll, refusingLines, droppingDigits, startingAfresh}
 use Rattle.wrong_behaviours.specs.Refuted.{withClient, withServer, Fails1, Fails2, Fails3, Refuted}
 use Rattle.wrong_behaviours.proofs.Exchanges.{slowBack, slowOut, bothOdd, otherServer, waiting, request, replied, with-root, with-tail, with-kiss, tells-other, near, inBound, concluded, in-bound}
@@ -328,6 +328,8 @@ refuted =
       refuses-every-line = refuses-every-line;
       accepts-odd-digits = accepts-odd-digits;
       starts-afresh = starts-afresh (waiting slowBack) tt;
+      fresh-of-images = fresh-of-images;
+      fresh-writes-nothing = fresh-writes-nothing;
       clears-answer = clears-answer;
       starts-over = starts-over;
       tests-late = tests-late;

@@ -6,12 +6,20 @@ use lib.ListN.{length, replicate}
 use Rattle.refusals.specs.Numbers.{image-not-legal}
 use Rattle.client.specs.Record.{fresh}
 use Rattle.client.specs.Calls as calls
-use Rattle.firmware_layouts.specs.Image.{withImage}
+use Rattle.firmware_layouts.specs.Image.{isImage, withImage}
 use Rattle.firmware.specs.Numbers.{numberOf}
 use Rattle.firmware.specs.Client.{LentCall, ask, arrival, giveUp, admitted, outcome}
 use Rattle.demands.specs.Form.{Implementation}
 use Rattle.demands.specs.ForC as for-c
-use Rattle.demands.specs.ForC.{ImageCall, ImageOutcome, clientForC, RequestForC, replyForC}
+use Rattle.demands.specs.ForC.{freshForC, ImageCall, ImageOutcome, clientForC, RequestForC, replyForC}
+
+-- fresh looks at the octets too, and refuses what is no image
+abbrev pub freshOfImages : Implementation freshForC
+freshOfImages image = cond (isImage image) (for-c.ours-fresh image) (freshForC .refusing image image-not-legal)
+
+-- fresh leaves the slice as it was
+abbrev pub freshWritingNothing : Implementation freshForC
+freshWritingNothing image = record { number = for-c.ours-fresh image .number; image = image }
 
 -- what ours does, with something made of its outcome where it refuses
 abbrev onRefusal : (ImageOutcome → ImageOutcome) → Implementation clientForC

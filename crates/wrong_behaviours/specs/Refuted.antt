@@ -20,7 +20,7 @@ use Rattle.demands.specs.SingleServer.{NeverStops}
 use Rattle.demands.specs.Wire.{ClockUnseen}
 use Rattle.wrong_behaviours.specs.Client.{laterStart, refusing, alwaysWriting, anyVersion, sendingClock, takingNone, stayingWaiting, spending, alwaysStopping, neverStopping, anyTail, withoutFields, kissFirst, anyOriginate, unsignedTimes, rootUntested, negativeDelayUntested, dispersionSigned, rootSwapped, rootAfter15, fixing, measuring, zeroOffset, hugeDelay, halfLost, largeHalf, towardZero, halvedApart}
 use Rattle.wrong_behaviours.specs.Others.{preferringFirst, forgettingUse, answeringZero, neverReplying, wrongOriginate, replyingAnyway, measuringHalfCircle, reversingHalfCircle, tellingHalfCircle, readingNothing, writingNothing, fourthYearDates, fourthYearTimestamps, nearestNanosecond, since1900, fractionDown, windowFirst, littleEndian, readingLonger, roundedDown, refusingEntries, takingEntries, payingAll, refusingLines, droppingDigits, startingAfresh}
-use Rattle.wrong_behaviours.specs.ForC.{clearingAnswer, startingOver, testingLate, cuttingVersion, cuttingLeap}
+use Rattle.wrong_behaviours.specs.ForC.{freshOfImages, freshWritingNothing, clearingAnswer, startingOver, testingLate, cuttingVersion, cuttingLeap}
 
 -- ours with this client
 abbrev clientOf : Implementation clients.client → (x : Operation) → Implementation (form x)
@@ -175,6 +175,8 @@ pub record Refuted : Type 0 where
   pub accepts-odd-digits : Fails2 line droppingDigits
   pub starts-afresh : Fails1 line startingAfresh
   -- the calls for C
+  pub fresh-of-images : Fails2 freshForC freshOfImages
+  pub fresh-writes-nothing : Fails2 freshForC freshWritingNothing
   pub clears-answer : Fails1 clientForC clearingAnswer
   pub starts-over : Fails1 clientForC startingOver
   pub tests-late : Fails2 clientForC testingLate

@@ -2,11 +2,11 @@
 use mathlib.Core.Path.{_≡_, _∙_}
 use native.Mathlib.Omega.{arith}
 use borrow.Author.Needs.{needs}
-use lib.IntN.{pos, _+ℤ_, _-ℤ_}
+use lib.IntN.{pos, _-ℤ_}
 use mir.Syntax.{w64}
 use mir.Val.{toZ}
 use mir.Facts.{toZ-ofZ, toZ-pos}
-use Rattle.arithmetic.proofs.Integers.{integers, sum, minus}
+use Rattle.arithmetic.proofs.Integers.{integers, minus}
 use Rattle.arithmetic.proofs.Machine.{integers-fits}
 use Rattle.unix_time.proofs.Seconds.{first-era, second-era}
 use Rattle.unix_time.proofs.unix_second.Statement.{statement}
@@ -19,7 +19,7 @@ sub-result : tie.Need-sub-result
 sub-result c = let s = pos (c .before .seconds .result) in rw (read (c .before)) (integers-fits w64 (s -ℤ pos 2208988800) (omega (arith, integers, minus s (pos 2208988800))))
 
 add-result : tie.Need-add-result
-add-result c = let s = pos (c .before .seconds .result) in rw (read (c .before)) (integers-fits w64 (s +ℤ pos 2085978496) (omega (arith, integers, sum s (pos 2085978496))))
+add-result c = rw (read (c .before)) (record { sfits = omega arith })
 
 returns : tie.Need-returns
 returns c =
