@@ -1,106 +1,178 @@
-/* Answers conformance lines 19 to 1D (docs/CONFORMANCE.md) through the archive, one line in, one line out, and any other line by 40.
- * Each slice that a call is lent has memory of its own, of exactly its length, so that a sanitizer sees a step past its end. */
-#include <pongulvesz.h>
+/* Answers conformance lines 05 to 07, 0C to 1D (docs/CONFORMANCE.md) through the archive, one line in, one line out, and any other line by 40. */
+#include "lines.h"
+#include "list_lines.h"
+
 #include <stdio.h>
 #include <stdlib.h>
 #include <string.h>
 
-enum { LONGEST_LINE = 1136, LONGEST_SLICE = 40, LONGEST_LENT = 80, LONGEST_PACKET = 1040 };
+enum { LONGEST_LINE = 2209, LONGEST_READ = 80, LONGEST_ADDED = 1100 };
 
-/* What is left of a line. */
-struct rest {
-    const uint8_t *octets;
-    size_t length;
-    int well_formed;
-};
-
-struct slice {
-    uint8_t *octets;
-    size_t length;
-};
-
-static struct slice lend(size_t length) {
-    struct slice s = {malloc(length > 0 ? length : 1), length};
-    if (s.octets == NULL)
-        abort();
-    return s;
+static void date(struct rest *rest) {
+    uint64_t timestamp = number(rest, 8);
+    int whole = is_whole(rest);
+    uint32_t year = 0, month = 0, day = 0, hour = 0, minute = 0, second = 0, fraction = 0;
+    uint32_t refusal = 0;
+    if (whole)
+        refusal = pongulvesz_date(timestamp, &year, &month, &day, &hour, &minute, &second, &fraction);
+    uint64_t numbers[] = {year, month, day, hour, minute, second, fraction};
+    answer_numbers(whole, refusal, numbers, (size_t[]){4, 1, 1, 1, 1, 1, 4}, 7);
 }
 
-/* The next octets of a line, in memory of their own. */
-static struct slice take(struct rest *rest, size_t length) {
-    if (rest->length < length) {
-        rest->well_formed = 0;
-        length = 0;
+static void timestamp_of_date(struct rest *rest) {
+    uint32_t year = (uint32_t)number(rest, 4), month = (uint32_t)number(rest, 1), day = (uint32_t)number(rest, 1);
+    uint32_t hour = (uint32_t)number(rest, 1), minute = (uint32_t)number(rest, 1), second = (uint32_t)number(rest, 1);
+    uint32_t fraction = (uint32_t)number(rest, 4);
+    int whole = is_whole(rest);
+    uint64_t timestamp = 0;
+    uint32_t refusal = 0;
+    if (whole)
+        refusal = pongulvesz_timestamp_of_date(year, month, day, hour, minute, second, fraction, &timestamp);
+    answer_numbers(whole, refusal, &timestamp, (size_t[]){8}, 1);
+}
+
+static void precision(struct rest *rest) {
+    uint64_t tick = number(rest, 8);
+    int whole = is_whole(rest);
+    int32_t exponent = 0;
+    uint32_t refusal = whole ? pongulvesz_precision(tick, &exponent) : 0;
+    uint64_t numbers[] = {(uint64_t)(uint8_t)exponent};
+    answer_numbers(whole, refusal, numbers, (size_t[]){1}, 1);
+}
+
+/* The debt is shown after a refusal too, and of a tick what was paid, which is 0 then. */
+static void entry(struct rest *rest) {
+    int64_t debt = signed64(number(rest, 8)), offset = signed64(number(rest, 8));
+    uint32_t half = (uint32_t)number(rest, 1);
+    int whole = is_whole(rest);
+    uint32_t refusal = whole ? pongulvesz_entry(&debt, offset, half) : 0;
+    uint64_t numbers[] = {(uint64_t)debt};
+    answer(whole, refusal, octets_of(numbers, (size_t[]){8}, 1), none);
+}
+
+static void tick(struct rest *rest) {
+    int64_t debt = signed64(number(rest, 8)), paid = 0;
+    uint64_t limit = number(rest, 8);
+    int whole = is_whole(rest);
+    uint32_t refusal = whole ? pongulvesz_tick(&debt, limit, &paid) : 0;
+    uint64_t numbers[] = {(uint64_t)paid, (uint64_t)debt};
+    answer(whole, refusal, octets_of(numbers, (size_t[]){8, 8}, 2), none);
+}
+
+static void broadcast(struct rest *rest) {
+    uint32_t synchronised = take_flag(rest), leap = (uint32_t)number(rest, 1);
+    int32_t precision = signed8((uint8_t)number(rest, 1));
+    uint32_t identifier = (uint32_t)number(rest, 4);
+    uint64_t reference = number(rest, 8);
+    uint32_t version = (uint32_t)number(rest, 1), poll = (uint32_t)number(rest, 1);
+    uint64_t t3 = number(rest, 8);
+    struct slice buffer = take_buffer(rest);
+    int whole = is_whole(rest);
+    uint32_t refusal = 0;
+    if (whole)
+        refusal = pongulvesz_broadcast(synchronised, leap, precision, identifier, reference, version, poll, t3,
+                                       buffer.octets, buffer.length);
+    answer(whole, refusal, buffer, none);
+}
+
+static void broadcast_arrival(struct rest *rest) {
+    uint64_t t4 = number(rest, 8);
+    struct slice packet = take_packet(rest);
+    int whole = is_whole(rest);
+    int64_t difference = 0;
+    uint32_t refusal = whole ? pongulvesz_broadcast_arrival(t4, packet.octets, packet.length, &difference) : 0;
+    uint64_t numbers[] = {(uint64_t)difference};
+    free(packet.octets);
+    answer_numbers(whole, refusal, numbers, (size_t[]){8}, 1);
+}
+
+/* Every field from the cursor on: how many, and of each its type, its body's length and its body. */
+static uint32_t walk(struct slice packet, size_t cursor, struct slice *told) {
+    uint32_t found = 0, field_type = 0;
+    size_t start = 0, end = 0;
+    append(told, 0, 1);
+    for (;;) {
+        uint32_t refusal =
+            pongulvesz_next_field(packet.octets, packet.length, &cursor, &found, &field_type, &start, &end);
+        if (refusal != 0 || found == 0)
+            return refusal;
+        told->octets[0]++;
+        append(told, field_type, 2);
+        append(told, end - start, 2);
+        memcpy(&told->octets[told->length], &packet.octets[start], end - start);
+        told->length += end - start;
     }
-    struct slice s = lend(length);
-    memcpy(s.octets, rest->octets, length);
-    rest->octets += length;
-    rest->length -= length;
-    return s;
 }
 
-static uint64_t number(struct rest *rest, size_t width) {
-    struct slice s = take(rest, width);
-    uint64_t n = 0;
-    for (size_t i = 0; i < s.length; i++)
-        n = n << 8 | s.octets[i];
-    free(s.octets);
-    return n;
+/* What is told has an octet more than the packet at most: type and length stand in the place of the field's head. */
+static void fields(struct rest *rest) {
+    struct slice packet = take_packet(rest);
+    int whole = is_whole(rest);
+    size_t cursor = 0;
+    uint32_t refusal = whole ? pongulvesz_fields(packet.octets, packet.length, &cursor) : 0;
+    struct slice told = lend(1 + packet.length);
+    told.length = 0;
+    if (whole && refusal == 0)
+        refusal = walk(packet, cursor, &told);
+    free(packet.octets);
+    answer(whole, refusal, told, none);
 }
 
-/* An image or an answer slice: its length, and its octets. */
-static struct slice take_slice(struct rest *rest) {
-    size_t length = (size_t)number(rest, 1);
-    if (length > LONGEST_SLICE)
+static void add_field(struct rest *rest) {
+    struct slice buffer = lend_filled((size_t)number(rest, 2));
+    size_t size = (size_t)number(rest, 2);
+    uint32_t field_type = (uint32_t)number(rest, 2);
+    size_t body_length = (size_t)number(rest, 2);
+    struct slice body = take(rest, body_length);
+    if (buffer.length > LONGEST_ADDED || body_length > LONGEST_ADDED || rest->length > buffer.length)
         rest->well_formed = 0;
-    return take(rest, length);
+    else
+        memcpy(buffer.octets, rest->octets, rest->length);
+    uint32_t refusal = 0;
+    if (rest->well_formed)
+        refusal = pongulvesz_add_field(buffer.octets, buffer.length, &size, field_type, body.octets, body.length);
+    uint64_t numbers[] = {refusal == 0 ? size : 0};
+    free(body.octets);
+    answer(rest->well_formed, refusal, octets_of(numbers, (size_t[]){2}, 1), buffer);
 }
 
-/* A buffer of so many octets as the line asks for, octet i being 5A + i in hexadecimal. */
-static struct slice take_buffer(struct rest *rest) {
-    size_t length = (size_t)number(rest, 1);
-    if (length > LONGEST_LENT)
+static void unix_time(struct rest *rest) {
+    uint64_t timestamp = number(rest, 8);
+    int whole = is_whole(rest);
+    int64_t seconds = 0;
+    uint32_t nanoseconds = 0;
+    uint32_t refusal = whole ? pongulvesz_unix_time(timestamp, &seconds, &nanoseconds) : 0;
+    uint64_t numbers[] = {(uint64_t)seconds, nanoseconds};
+    answer_numbers(whole, refusal, numbers, (size_t[]){8, 4}, 2);
+}
+
+static void timestamp_of_unix_time(struct rest *rest) {
+    int64_t seconds = signed64(number(rest, 8));
+    uint32_t nanoseconds = (uint32_t)number(rest, 4);
+    int whole = is_whole(rest);
+    uint64_t timestamp = 0;
+    uint32_t refusal = whole ? pongulvesz_timestamp_of_unix_time(seconds, nanoseconds, &timestamp) : 0;
+    answer_numbers(whole, refusal, &timestamp, (size_t[]){8}, 1);
+}
+
+static void write_count(struct rest *rest) {
+    uint32_t count = (uint32_t)number(rest, 4);
+    struct slice buffer = take_buffer(rest);
+    int whole = is_whole(rest);
+    answer(whole, whole ? pongulvesz_write_count(count, buffer.octets, buffer.length) : 0, buffer, none);
+}
+
+static void read_count(struct rest *rest) {
+    if (rest->length > LONGEST_READ)
         rest->well_formed = 0;
-    struct slice s = lend(length);
-    for (size_t i = 0; i < length; i++)
-        s.octets[i] = (uint8_t)(0x5A + i);
-    return s;
+    struct slice octets = take(rest, rest->length);
+    int whole = is_whole(rest);
+    uint32_t count = 0;
+    uint32_t refusal = whole ? pongulvesz_read_count(octets.octets, octets.length, &count) : 0;
+    uint64_t numbers[] = {count};
+    free(octets.octets);
+    answer_numbers(whole, refusal, numbers, (size_t[]){4}, 1);
 }
-
-static struct slice take_packet(struct rest *rest) {
-    if (rest->length > LONGEST_PACKET)
-        rest->well_formed = 0;
-    return take(rest, rest->length);
-}
-
-static int32_t signed32(uint32_t bits) {
-    return bits <= INT32_MAX ? (int32_t)bits : -(int32_t)(UINT32_MAX - bits) - 1;
-}
-
-/* A line is well formed where it had all that its operation takes, and nothing is left. */
-static int is_whole(const struct rest *rest) {
-    return rest->well_formed && rest->length == 0;
-}
-
-static void put(const uint8_t *octets, size_t length) {
-    for (size_t i = 0; i < length; i++)
-        printf("%02X", (unsigned)octets[i]);
-}
-
-/* Writes the answer: the number, and the slices as they are after the call. */
-static void answer(int whole, uint32_t refusal, struct slice first, struct slice second) {
-    uint8_t octet = (uint8_t)(whole ? refusal : PONGULVESZ_LINE_MALFORMED);
-    put(&octet, 1);
-    if (whole) {
-        put(first.octets, first.length);
-        put(second.octets, second.length);
-    }
-    putchar('\n');
-    free(first.octets);
-    free(second.octets);
-}
-
-static const struct slice none = {NULL, 0};
 
 static void fresh(struct rest *rest) {
     struct slice image = take_slice(rest);
@@ -161,6 +233,22 @@ static void reply(struct rest *rest) {
 static void answer_line(const uint8_t *octets, size_t length) {
     struct rest rest = {octets, length, 1};
     switch (number(&rest, 1)) {
+    case 0x05: date(&rest); break;
+    case 0x06: timestamp_of_date(&rest); break;
+    case 0x07: precision(&rest); break;
+    case 0x0C: entry(&rest); break;
+    case 0x0D: tick(&rest); break;
+    case 0x0E: list_ask(&rest); break;
+    case 0x0F: list_arrival(&rest); break;
+    case 0x10: list_give_up(&rest); break;
+    case 0x11: broadcast(&rest); break;
+    case 0x12: broadcast_arrival(&rest); break;
+    case 0x13: fields(&rest); break;
+    case 0x14: add_field(&rest); break;
+    case 0x15: unix_time(&rest); break;
+    case 0x16: timestamp_of_unix_time(&rest); break;
+    case 0x17: write_count(&rest); break;
+    case 0x18: read_count(&rest); break;
     case 0x19: fresh(&rest); break;
     case 0x1A: ask(&rest); break;
     case 0x1B: arrival(&rest); break;

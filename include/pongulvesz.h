@@ -3,6 +3,7 @@
  * Everything that these functions decide is proved; docs/C.md has the layouts, what a caller must see to, and a whole
  * exchange. Every function returns 0, or the number of a refusal. A refused call changes no octet of what it was lent.
  *
+ * A pointer to a number is valid and not NULL; the number is written where nothing is refused.
  * A slice is a pointer and its length in octets. The pointer is valid for that length and not NULL, also where the length
  * is 0; slices of one call do not overlap; nobody else writes them during the call. A timestamp is NTP's, of 64 bits:
  * seconds in the upper half, their fraction in the lower. An uptime is in whole seconds, of a clock that is never set. */
@@ -132,7 +133,7 @@ static inline const char *pongulvesz_words(uint32_t number) {
     case 26:
         return "outside 1968-01-20 03:14:08 to 2104-02-26 09:42:23, fractions included";
     case 27:
-        return "field to write too large (LI over 3, VN or mode over 7)";
+        return "field to write too large (LI over 3, VN or mode over 7, for C the type of an extension field over 65535)";
     case 28:
         return "tick zero or above 2^32";
     case 29:
@@ -170,7 +171,7 @@ static inline const char *pongulvesz_words(uint32_t number) {
     case 45:
         return "Time Protocol: a length to read other than 4, or a buffer under 4";
     case 46:
-        return "C: an image that is not 32 octets or that no legal record has, or an answer slice that is not 24";
+        return "C: an image that is not 32 octets or that no legal record has, also one of a list, or an answer slice that is not 24";
     case 64:
         return "replay line malformed";
     default:
@@ -203,6 +204,87 @@ uint32_t pongulvesz_give_up(uint8_t *image, size_t image_length, uint64_t uptime
 uint32_t pongulvesz_reply(uint32_t synchronised, uint32_t leap, int32_t precision, uint32_t identifier,
                           uint64_t reference, uint64_t t2, uint64_t t3, uint8_t *buffer, size_t buffer_length,
                           const uint8_t *request, size_t request_length);
+
+/* ---- A list of servers: 1 to 8 images in order of preference, one after another, so that record number i stands from
+ * octet 32 * i on. in_use is the number of the record in use. Refusals, in order: 46 where a whole image is not there
+ * or one of them is no legal record's, 35 where there are not 1 to 8 or a number is not in the list, then those of the
+ * call for one image. */
+
+/* Asks for record number at. */
+uint32_t pongulvesz_list_ask(uint8_t *list, size_t list_length, size_t at, size_t in_use, uint8_t *buffer,
+                             size_t buffer_length, uint32_t version, uint64_t clock, uint64_t token, uint64_t uptime);
+
+/* A packet has come in for record number at. Whether another server can be asked the list tells; after a kiss for the
+ * record in use it is the number of the next that is not stopped, where there is one, that in_use becomes. */
+uint32_t pongulvesz_list_arrival(uint8_t *list, size_t list_length, size_t at, size_t *in_use, uint8_t *answer,
+                                 size_t answer_length, uint64_t t4, const uint8_t *packet, size_t packet_length);
+
+/* Gives up waiting for the reply to record number at. */
+uint32_t pongulvesz_list_give_up(uint8_t *list, size_t list_length, size_t at, size_t in_use, uint64_t uptime);
+
+/* ---- The ledger, which pays corrections out slowly: what is owed is a debt in half units, 2^-33 s, of less than 2^50
+ * in size. It begins at 0. */
+
+/* Enters an accepted offset and its half, 0 or 1. Refusals, in order: 29, 30, 31. */
+uint32_t pongulvesz_entry(int64_t *debt, int64_t offset, uint32_t half);
+
+/* Pays at most the limit, 1 to 2^32 half units: paid has the debt's sign. Refusals, in order: 29, 32. */
+uint32_t pongulvesz_tick(int64_t *debt, uint64_t limit, int64_t *paid);
+
+/* ---- Broadcast. */
+
+/* Writes the 48 octets of a broadcast packet into the buffer; version is 1 to 4, poll 4 to 14 (an exponent of 2, in
+ * seconds), the settings are those of a reply, t3 is when it is sent. Refusals, in order: 1, 22, 23, 41, and when
+ * synchronised 14. */
+uint32_t pongulvesz_broadcast(uint32_t synchronised, uint32_t leap, int32_t precision, uint32_t identifier,
+                              uint64_t reference, uint32_t version, uint32_t poll, uint64_t t3, uint8_t *buffer,
+                              size_t buffer_length);
+
+/* A broadcast packet has come in, and the clock read t4: the difference of its transmit timestamp and t4, in units of
+ * 2^-32 s. Refusals, in order: 7, 36, 37, 38, 39, 40, 3, 43. */
+uint32_t pongulvesz_broadcast_arrival(uint64_t t4, const uint8_t *packet, size_t packet_length, int64_t *difference);
+
+/* ---- Extension fields (RFC 7822), which stand past a packet's 48th octet. */
+
+/* Puts the cursor where the first field would begin. Refusals: 7. */
+uint32_t pongulvesz_fields(const uint8_t *packet, size_t packet_length, size_t *cursor);
+
+/* What stands at the cursor. Where it is a field, found is 1, field_type its type, its body the packet's octets from
+ * start to end, end not included, and the cursor goes behind it; at the end of the fields found is 0 and the others
+ * stay. Refusals: 7, which a walk from where pongulvesz_fields points never meets. */
+uint32_t pongulvesz_next_field(const uint8_t *packet, size_t packet_length, size_t *cursor, uint32_t *found,
+                               uint32_t *field_type, size_t *start, size_t *end);
+
+/* Adds a field at the end of the packet that is the first *size octets of the buffer; size becomes the packet's new
+ * length. Refusals, in order: 27 where the type is over 65535, 7, 44. */
+uint32_t pongulvesz_add_field(uint8_t *buffer, size_t buffer_length, size_t *size, uint32_t field_type,
+                              const uint8_t *body, size_t body_length);
+
+/* ---- Dates, Unix time, the Time Protocol, and the precision of a clock. */
+
+/* The date of a timestamp, in UTC, 1968 to 2104; the fraction is in units of 2^-32 s. Refusals: 24. */
+uint32_t pongulvesz_date(uint64_t timestamp, uint32_t *year, uint32_t *month, uint32_t *day, uint32_t *hour,
+                         uint32_t *minute, uint32_t *second, uint32_t *fraction);
+
+/* The timestamp of a date. Refusals, in order: 25, 26, 24. */
+uint32_t pongulvesz_timestamp_of_date(uint32_t year, uint32_t month, uint32_t day, uint32_t hour, uint32_t minute,
+                                      uint32_t second, uint32_t fraction, uint64_t *timestamp);
+
+/* The Unix time of a timestamp: seconds from 1970, negative before it, and nanoseconds from there on, rounded down.
+ * Refusals: 24. */
+uint32_t pongulvesz_unix_time(uint64_t timestamp, int64_t *seconds, uint32_t *nanoseconds);
+
+/* The timestamp of a Unix time, its fraction rounded up. Refusals, in order: 25, 26, 24. */
+uint32_t pongulvesz_timestamp_of_unix_time(int64_t seconds, uint32_t nanoseconds, uint64_t *timestamp);
+
+/* The Time Protocol (RFC 868): writes a count into the first four octets of the buffer, and reads one of four octets.
+ * Refusals: 45. */
+uint32_t pongulvesz_write_count(uint32_t count, uint8_t *buffer, size_t buffer_length);
+uint32_t pongulvesz_read_count(const uint8_t *octets, size_t octets_length, uint32_t *count);
+
+/* The precision of a clock that ticks every so many units of 2^-32 s, 1 to 2^32: the exponent of the smallest power of
+ * two, in seconds, that is not below the tick. Refusals: 28. */
+uint32_t pongulvesz_precision(uint64_t tick, int32_t *precision);
 
 #ifdef __cplusplus
 }

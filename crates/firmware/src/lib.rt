@@ -1,4 +1,4 @@
 // The client and the server for C: plain numbers, and slices that C lends as a pointer and a length (docs/C.md).
 pub mod client_calls;
-mod numbers;
+pub mod numbers;
 pub mod server_calls;

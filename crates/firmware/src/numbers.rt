@@ -5,14 +5,14 @@ ghost use Rattle.firmware.specs.Numbers.{narrowSigned, repliedNumber};
 use server::ReplyAnswer;
 
 // What 8 bits do not hold becomes 255, and is refused by the number of its range.
-pub(crate) fn narrow(n: u32) -> u8
+pub fn narrow(n: u32) -> u8
     ensures { λ r. ⌜ r ≡ min n 255 ⌝ }
 {
     if n < 255 { n as u8 } else { 255 }
 }
 
 // What 8 bits do not hold becomes -128 or 127.
-pub(crate) fn narrow_signed(n: i32) -> i8
+pub fn narrow_signed(n: i32) -> i8
     ensures { λ r. ⌜ r ≡ narrowSigned n ⌝ }
 {
     if n < -128 {

@@ -7,7 +7,7 @@ use crate::numbers::replied_number;
 use server_packet::Settings;
 use timestamp::Timestamp;
 
-fn settings_of(
+pub fn settings_of(
     synchronised: u32,
     leap: u32,
     precision: i32,

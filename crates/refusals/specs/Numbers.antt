@@ -108,7 +108,7 @@ no-such-date = 25
 abbrev pub outside-window : ℕ
 outside-window = 26
 
--- field to write too large (LI over 3, VN or mode over 7)
+-- field to write too large (LI over 3, VN or mode over 7, for C the type of an extension field over 65535)
 abbrev pub field-too-large : ℕ
 field-too-large = 27
 
@@ -184,7 +184,7 @@ field-not-added = 44
 abbrev pub time-length-wrong : ℕ
 time-length-wrong = 45
 
--- C: an image that is not 32 octets or that no legal record has, or an answer slice that is not 24
+-- C: an image that is not 32 octets or that no legal record has, also one of a list, or an answer slice that is not 24
 abbrev pub image-not-legal : ℕ
 image-not-legal = 46
 

@@ -80,7 +80,7 @@ pub const NO_SUCH_DATE: u8 = 25;
 // Outside 1968-01-20 03:14:08 to 2104-02-26 09:42:23, fractions included.
 pub const OUTSIDE_WINDOW: u8 = 26;
 
-// Field to write too large (LI over 3, VN or mode over 7).
+// Field to write too large (LI over 3, VN or mode over 7, for C the type of an extension field over 65535).
 pub const FIELD_TOO_LARGE: u8 = 27;
 
 // Tick zero or above 2^32.
@@ -137,7 +137,7 @@ pub const FIELD_NOT_ADDED: u8 = 44;
 // Time Protocol: a length to read other than 4, or a buffer under 4.
 pub const TIME_LENGTH_WRONG: u8 = 45;
 
-// C: an image that is not 32 octets or that no legal record has, or an answer slice that is not 24.
+// C: an image that is not 32 octets or that no legal record has, also one of a list, or an answer slice that is not 24.
 pub const IMAGE_NOT_LEGAL: u8 = 46;
 
 // Replay line malformed.
