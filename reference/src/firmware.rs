@@ -72,7 +72,7 @@ pub fn ask(
 }
 
 /// What an arrival tells, as it stands in an answer slice.
-fn answer_of(told: &Told) -> Answer {
+pub fn answer_of(told: &Told) -> Answer {
     let mut answer = [0; ANSWER];
     let (small, times) = answer.split_at_mut(8);
     match told {

@@ -1,0 +1,57 @@
+//! The server's reply, and broadcast.
+
+use crate::{lent, lent_mut, written};
+use reference::firmware::{self, WideSettings, narrow};
+use reference::{broadcast, refusal};
+
+#[unsafe(no_mangle)]
+pub unsafe extern "C" fn independent_reply(
+    synchronised: u32,
+    leap: u32,
+    precision: i32,
+    identifier: u32,
+    reference: u64,
+    t2: u64,
+    t3: u64,
+    buffer: *mut u8,
+    buffer_length: usize,
+    request: *const u8,
+    request_length: usize,
+) -> u32 {
+    let identifier = identifier.to_be_bytes();
+    let settings = WideSettings { synchronised, leap, precision, identifier, reference };
+    let buffer = unsafe { lent_mut(buffer, buffer_length) };
+    let request = unsafe { lent(request, request_length) };
+    firmware::reply(&settings, t2, t3, request, buffer).into()
+}
+
+#[unsafe(no_mangle)]
+pub unsafe extern "C" fn independent_broadcast(
+    synchronised: u32,
+    leap: u32,
+    precision: i32,
+    identifier: u32,
+    reference: u64,
+    version: u32,
+    poll: u32,
+    t3: u64,
+    buffer: *mut u8,
+    buffer_length: usize,
+) -> u32 {
+    let identifier = identifier.to_be_bytes();
+    let settings = WideSettings { synchronised, leap, precision, identifier, reference };
+    let buffer = unsafe { lent_mut(buffer, buffer_length) };
+    let (version, poll) = (narrow(version), narrow(poll));
+    refusal::number_of(&broadcast::write(&settings.narrow(), version, poll, t3, buffer)).into()
+}
+
+#[unsafe(no_mangle)]
+pub unsafe extern "C" fn independent_broadcast_arrival(
+    t4: u64,
+    packet: *const u8,
+    packet_length: usize,
+    difference: &mut i64,
+) -> u32 {
+    let packet = unsafe { lent(packet, packet_length) };
+    written(broadcast::arrival(packet, t4), |answer| *difference = answer)
+}
