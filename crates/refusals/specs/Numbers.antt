@@ -108,7 +108,7 @@ no-such-date = 25
 abbrev pub outside-window : ℕ
 outside-window = 26
 
--- field to write too large (LI over 3, VN or mode over 7, for C the type of an extension field over 65535)
+-- field to write too large (LI over 3, VN or mode over 7; for C also a number that the 8, 16 or 32 bits of its field do not hold)
 abbrev pub field-too-large : ℕ
 field-too-large = 27
 

@@ -80,7 +80,7 @@ pub const NO_SUCH_DATE: u8 = 25;
 // Outside 1968-01-20 03:14:08 to 2104-02-26 09:42:23, fractions included.
 pub const OUTSIDE_WINDOW: u8 = 26;
 
-// Field to write too large (LI over 3, VN or mode over 7, for C the type of an extension field over 65535).
+// Field to write too large (LI over 3, VN or mode over 7; for C also a number that the 8, 16 or 32 bits of its field do not hold).
 pub const FIELD_TOO_LARGE: u8 = 27;
 
 // Tick zero or above 2^32.
