@@ -1,12 +1,52 @@
-/* Answers conformance lines 05 to 07, 0C to 1D (docs/CONFORMANCE.md) through the archive, one line in, one line out, and any other line by 40. */
+/* Answers conformance lines (docs/CONFORMANCE.md) through the archive, one line in, one line out. */
 #include "lines.h"
-#include "list_lines.h"
+#include "record_lines.h"
 
 #include <stdio.h>
 #include <stdlib.h>
 #include <string.h>
 
 enum { LONGEST_LINE = 2209, LONGEST_READ = 80, LONGEST_ADDED = 1100 };
+
+/* No order is told by 01, and not by the number that the call gives. */
+static void difference(struct rest *rest) {
+    uint64_t x = number(rest, 8), y = number(rest, 8);
+    int whole = is_whole(rest);
+    int64_t units = 0;
+    uint32_t refusal = whole ? pongulvesz_difference(x, y, &units) : 0;
+    uint64_t numbers[] = {(uint64_t)units};
+    answer_numbers(whole, refusal == PONGULVESZ_NO_ORDER ? 1 : refusal, numbers, (size_t[]){8}, 1);
+}
+
+static void measure(struct rest *rest) {
+    uint64_t t1 = number(rest, 8), t2 = number(rest, 8), t3 = number(rest, 8), t4 = number(rest, 8);
+    int whole = is_whole(rest);
+    int64_t offset = 0, delay = 0;
+    uint32_t half = 0;
+    uint32_t refusal = whole ? pongulvesz_measure(t1, t2, t3, t4, &offset, &half, &delay) : 0;
+    uint64_t numbers[] = {(uint64_t)offset, half, (uint64_t)delay};
+    answer_numbers(whole, refusal, numbers, (size_t[]){8, 1, 8}, 3);
+}
+
+static const size_t field_widths[PONGULVESZ_FIELDS] = {1, 1, 1, 1, 1, 1, 4, 4, 4, 8, 8, 8, 8};
+
+static void read_fields(struct rest *rest) {
+    struct slice packet = take_packet(rest);
+    int whole = is_whole(rest);
+    uint64_t fields[PONGULVESZ_FIELDS] = {0};
+    uint32_t refusal = whole ? pongulvesz_read_fields(packet.octets, packet.length, fields) : 0;
+    free(packet.octets);
+    answer_numbers(whole, refusal, fields, field_widths, PONGULVESZ_FIELDS);
+}
+
+static void write_fields(struct rest *rest) {
+    struct slice buffer = take_buffer(rest);
+    uint64_t fields[PONGULVESZ_FIELDS];
+    for (size_t i = 0; i < PONGULVESZ_FIELDS; i++)
+        fields[i] = number(rest, field_widths[i]);
+    int whole = is_whole(rest);
+    answer(whole, whole ? pongulvesz_write_fields(fields, buffer.octets, buffer.length) : 0, buffer, none);
+}
 
 static void date(struct rest *rest) {
     uint64_t timestamp = number(rest, 8);
@@ -214,9 +254,8 @@ static void give_up(struct rest *rest) {
     answer(whole, whole ? pongulvesz_give_up(image.octets, image.length, uptime) : 0, image, none);
 }
 
-static void reply(struct rest *rest) {
-    uint32_t synchronised = (uint32_t)number(rest, 4), leap = (uint32_t)number(rest, 4);
-    int32_t precision = signed32((uint32_t)number(rest, 4));
+/* What the two lines of a reply have in common, past the settings before the identifier. */
+static void reply(struct rest *rest, uint32_t synchronised, uint32_t leap, int32_t precision) {
     uint32_t identifier = (uint32_t)number(rest, 4);
     uint64_t reference = number(rest, 8), t2 = number(rest, 8), t3 = number(rest, 8);
     struct slice buffer = take_buffer(rest);
@@ -230,12 +269,35 @@ static void reply(struct rest *rest) {
     answer(whole, refusal, buffer, none);
 }
 
+static void narrow_reply(struct rest *rest) {
+    uint32_t synchronised = take_flag(rest), leap = (uint32_t)number(rest, 1);
+    reply(rest, synchronised, leap, signed8((uint8_t)number(rest, 1)));
+}
+
+static void wide_reply(struct rest *rest) {
+    uint32_t synchronised = (uint32_t)number(rest, 4), leap = (uint32_t)number(rest, 4);
+    reply(rest, synchronised, leap, signed32((uint32_t)number(rest, 4)));
+}
+
+static void constants(struct rest *rest) {
+    uint64_t numbers[] = {0, PONGULVESZ_SECOND, PONGULVESZ_LIMIT};
+    answer_numbers(is_whole(rest), 0, numbers, (size_t[]){8, 8, 8}, 3);
+}
+
 static void answer_line(const uint8_t *octets, size_t length) {
     struct rest rest = {octets, length, 1};
     switch (number(&rest, 1)) {
+    case 0x01: difference(&rest); break;
+    case 0x02: measure(&rest); break;
+    case 0x03: read_fields(&rest); break;
+    case 0x04: write_fields(&rest); break;
     case 0x05: date(&rest); break;
     case 0x06: timestamp_of_date(&rest); break;
     case 0x07: precision(&rest); break;
+    case 0x08: record_ask(&rest); break;
+    case 0x09: record_arrival(&rest); break;
+    case 0x0A: record_give_up(&rest); break;
+    case 0x0B: narrow_reply(&rest); break;
     case 0x0C: entry(&rest); break;
     case 0x0D: tick(&rest); break;
     case 0x0E: list_ask(&rest); break;
@@ -253,7 +315,9 @@ static void answer_line(const uint8_t *octets, size_t length) {
     case 0x1A: ask(&rest); break;
     case 0x1B: arrival(&rest); break;
     case 0x1C: give_up(&rest); break;
-    case 0x1D: reply(&rest); break;
+    case 0x1D: wide_reply(&rest); break;
+    case 0xF0: record_fresh(&rest); break;
+    case 0xF1: constants(&rest); break;
     default: answer(0, 0, none, none);
     }
 }
@@ -269,16 +333,27 @@ static unsigned digit(int c) {
     return 16;
 }
 
+/* The next character, or EOF. */
+static int next_character(void) {
+    static char text[1 << 16];
+    static size_t at, length;
+    if (at == length) {
+        at = 0;
+        length = fread(text, 1, sizeof text, stdin);
+    }
+    return at < length ? (unsigned char)text[at++] : EOF;
+}
+
 /* Reads a line and answers it; 0 at the end of the input. A line of an odd number of digits, with another character or too long has no octets, and so is
  * malformed. */
 static int next_line(void) {
     static uint8_t octets[LONGEST_LINE];
     size_t digits = 0;
     int well_formed = 1;
-    int c = getchar();
+    int c = next_character();
     if (c == EOF)
         return 0;
-    for (; c != EOF && c != '\n'; c = getchar()) {
+    for (; c != EOF && c != '\n'; c = next_character()) {
         unsigned value = digit(c);
         if (value == 16 || digits == 2 * (size_t)LONGEST_LINE) {
             well_formed = 0;

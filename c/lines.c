@@ -26,11 +26,15 @@ struct slice take(struct rest *rest, size_t length) {
 }
 
 uint64_t number(struct rest *rest, size_t width) {
-    struct slice s = take(rest, width);
+    if (rest->length < width) {
+        rest->well_formed = 0;
+        return 0;
+    }
     uint64_t n = 0;
-    for (size_t i = 0; i < s.length; i++)
-        n = n << 8 | s.octets[i];
-    free(s.octets);
+    for (size_t i = 0; i < width; i++)
+        n = n << 8 | rest->octets[i];
+    rest->octets += width;
+    rest->length -= width;
     return n;
 }
 
@@ -85,8 +89,17 @@ int is_whole(const struct rest *rest) {
 }
 
 static void put(const uint8_t *octets, size_t length) {
-    for (size_t i = 0; i < length; i++)
-        printf("%02X", (unsigned)octets[i]);
+    static const char digits[] = "0123456789ABCDEF";
+    char text[2 * 64];
+    size_t used = 0;
+    for (size_t i = 0; i < length; i++) {
+        text[used++] = digits[octets[i] >> 4];
+        text[used++] = digits[octets[i] & 15];
+        if (used == sizeof text || i + 1 == length) {
+            fwrite(text, 1, used, stdout);
+            used = 0;
+        }
+    }
 }
 
 void answer(int whole, uint32_t leading, struct slice first, struct slice second) {

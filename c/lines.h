@@ -21,11 +21,11 @@ extern const struct slice none;
 
 struct slice lend(size_t length);
 
-/* So many octets, octet i being 5A + i in hexadecimal. */
+/* A slice of length octets. Octet i is 5A + i in hexadecimal. */
 struct slice lend_filled(size_t length);
 
-/* The next octets of a line, and what they stand for: a number of so many octets, yes or no, an image or an answer slice with its length before it, a buffer
- * of which the line has the length alone, and a packet, which is all that is left. */
+/* The next octets of a line, and what they stand for: a number of width octets, yes or no, an image or an answer slice with its length before it, a buffer
+ * of which the line has the length alone, and a packet, which is the rest of the line. */
 struct slice take(struct rest *rest, size_t length);
 uint64_t number(struct rest *rest, size_t width);
 uint32_t take_flag(struct rest *rest);
@@ -41,10 +41,10 @@ int32_t signed8(uint8_t bits);
 /* A line is well formed where it had all that its operation takes, and nothing is left. */
 int is_whole(const struct rest *rest);
 
-/* Puts a number of so many octets behind those that are there. */
+/* Puts a number of width octets behind those that are there. */
 void append(struct slice *octets, uint64_t n, size_t width);
 
-/* Numbers, each of so many octets. */
+/* Numbers, each with as many octets as widths says. */
 struct slice octets_of(const uint64_t *numbers, const size_t *widths, size_t count);
 
 /* Writes the answer: an octet, which is the number but in the answer of an arrival, and the slices as they are after the call; 40 alone for a line that is not

@@ -66,32 +66,6 @@ fn holds_of_a_server() {
 }
 
 #[test]
-fn halves() {
-    let halve = |p: i64, q: i64| one(&format!("F2{p:016X}{q:016X}"));
-    let good = |offset: i64, half: u8| format!("00{offset:016X}{half:02X}");
-    let (least, most) = (i64::MIN, i64::MAX);
-    for (p, q, offset, half) in [
-        (0, 0, 0, 0),
-        (0, -1, -1, 1),
-        (-1, -1, -1, 0),
-        (1, 1, 1, 0),
-        (3, -1, 1, 0),
-        (most, most, most, 0),
-        (most, most - 1, most - 1, 1),
-        (most, 1, 1 << 62, 0),
-        (least, least, least, 0),
-        (least, least + 1, least, 1),
-        (least, -1, -(1 << 62) - 1, 1),
-        (least, most, -1, 1),
-    ] {
-        assert_eq!([halve(p, q), halve(q, p)], [good(offset, half), good(offset, half)]);
-    }
-    for octets in [0, 8, 15, 17, 24] {
-        assert_eq!(one(&format!("F2{}", "00".repeat(octets))), "40");
-    }
-}
-
-#[test]
 fn buffers_are_shown() {
     assert_eq!(one(&format!("0403{}", "00".repeat(50))), "015A5B5C");
     let text = one(&format!("0450{}{}", "040000", "00".repeat(47)));

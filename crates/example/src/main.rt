@@ -1,4 +1,5 @@
-// An example of the library's use: our client and our server at an exchange across 2036, a give-up, a kiss and refusals. Each call writes a line.
+// An example of the library's use: our client and our server at an exchange across 2036, a give-up, a kiss and refusals, also of a record that is not legal. Each
+// call writes a line.
 mod calls;
 mod print;
 
@@ -52,6 +53,15 @@ fn stopped(client: Client, request: &mut [u8], reply: &mut [u8]) {
     calls::give_up(client, 100000);
 }
 
+// A record with a poll exponent below 6 is not legal: every call refuses it. C cannot hand one in, since it has no image.
+fn not_legal(request: &mut [u8], reply: &[u8]) {
+    let mut client = Client::fresh();
+    client.exponent = 5;
+    let client = calls::ask(client, request, T1, 8, 0);
+    let client = calls::arrival(client, reply, T4, false);
+    calls::give_up(client, 16);
+}
+
 // The server is lent too little room, sent too short a request, and sent one of mode 0.
 fn server_refusals() {
     let request = [0u8; 48];
@@ -69,5 +79,6 @@ fn main() {
     let client = no_reply(client, &mut request, &reply);
     let client = backed_off(client, &mut request, &mut reply);
     stopped(client, &mut request, &mut reply);
+    not_legal(&mut request, &reply);
     server_refusals();
 }

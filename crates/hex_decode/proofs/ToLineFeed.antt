@@ -1,5 +1,5 @@
 -- The characters up to a line feed, one after another.
-use Prim.Native.Nat.{ℕ, suc, _+_, _≤_, _<_}
+use Prim.Native.Nat.{ℕ, suc, _+_, _<_}
 use native.Mathlib.Nat.{add-zero}
 use native.Mathlib.Numerals.{add-one}
 use native.Mathlib.Omega.{arith}
@@ -13,7 +13,7 @@ use lib.Seq.{drop-cons}
 use Rattle.hex_decode.specs.declared.Line.{Line}
 use Rattle.hex_decode.specs.declared.PushedLine.{PushedLine}
 use Rattle.hex_decode.specs.Lines.{pushed, pushedBuffer}
-use Rattle.hex_decode.specs.Decoding.{Held, toLineFeed, inLine, heldAfter, pushedLine}
+use Rattle.hex_decode.specs.Decoding.{Held, toLineFeed, inLine, heldAfter}
 
 -- index i is in the line: its character, and then the rest; it is not: nothing
 module _ (cs : List ℕ) (i : ℕ) where
@@ -55,8 +55,3 @@ module _ (cs : List ℕ) (i : ℕ) where
       let f′ = rw (none e) at f in
       let g′ = rw (none e, add-zero) at g in
       (λ j. record { line = f′ j .line; at = g′ j }, ap (λ x. x .buffer) f′)
-
--- what is taken is not before the index that it is taken from
-pub not-back : (line : Line) (b cs : List ℕ) (at : ℕ) (t : PushedLine) → t ≡ pushedLine line b cs at → at ≤ t .at
-unfolding pushedLine
-not-back line b cs at t e = rw (ap (λ z. z .at) e) (omega arith)

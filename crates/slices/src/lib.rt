@@ -3,7 +3,7 @@ ghost use mathlib.Core.Path.{_≡_};
 ghost use mathlib.Core.List.{[], _∷_, reverse};
 ghost use Prim.Native.Nat.{_+_, _≤_, min};
 ghost use lib.Dec.{leb};
-ghost use lib.ListN.{length, drop, getD};
+ghost use lib.ListN.{length, getD};
 ghost use lib.Seq.{sets};
 ghost use Rattle.arithmetic.specs.Octets.{bigEndian, octets, part};
 ghost use Rattle.slices.specs.Slices.{readAt, writeAt, writeReversedAt};
@@ -25,14 +25,6 @@ pub fn octet_or_zero(p: &[u8], i: usize) -> u8
     ensures { λ r. ⌜ r ≡ getD (now (p .entry)) i 0 ⌝ }
 {
     if i < p.len() { p[i] } else { 0 }
-}
-
-// The slice from an index on, which is empty from its end on.
-pub fn from_index(p: &[u8], at: usize) -> &[u8]
-    ensures { λ r. ⌜ now r ≡ drop at (now (p .entry)) ⌝ }
-{
-    let first = least(at, p.len());
-    &p[first..]
 }
 
 // Whether a slice of this length has n octets from index at on.

@@ -50,7 +50,6 @@ pub fn put_answer(call: &Call, out: &mut Vec<u8>) {
         Call::OfFirmware(ref call) => put_firmware_answer(call, out),
         Call::Fresh => put_next(&FRESH, Ok(FRESH), out),
         Call::Constants => put_constants(out),
-        Call::Halve { first, second } => put_halves(first.into(), second.into(), out),
     }
 }
 
@@ -209,11 +208,4 @@ fn put_tick(debt: i64, limit: u64, out: &mut Vec<u8>) {
     out.push(number_of(&result));
     let payment = result.unwrap_or(ledger::Payment { paid: 0, debt });
     put_numbers([payment.paid as u64, payment.debt as u64], out);
-}
-
-fn put_halves(first: i128, second: i128, out: &mut Vec<u8>) {
-    let (offset, half) = timestamp::halve(first + second);
-    out.push(0);
-    put_numbers([offset as u64], out);
-    out.push(half);
 }

@@ -52,7 +52,6 @@ pub enum Call<'a> {
     OfFirmware(FirmwareCall<'a>),
     Fresh,
     Constants,
-    Halve { first: i64, second: i64 },
 }
 
 /// What an ask is given beside the record.
@@ -134,7 +133,6 @@ pub fn lengths(operation: u8, rest: &[u8]) -> Result<(usize, usize), Malformed> 
         0x18 => (0, LONGEST.into()),
         0x19..=0x1D => firmware_call::lengths(operation, rest)?,
         0xF0 | 0xF1 => (0, 0),
-        0xF2 => (16, 16),
         _ => return Err(Malformed::Operation),
     })
 }
@@ -191,7 +189,6 @@ fn read_call<'a>(operation: u8, octets: &mut Reader<'a>) -> Result<Call<'a>, Mal
         0x19..=0x1D => Call::OfFirmware(FirmwareCall::read(operation, octets)?),
         0xF0 => Call::Fresh,
         0xF1 => Call::Constants,
-        0xF2 => Call::Halve { first: octets.i64()?, second: octets.i64()? },
         _ => return Err(Malformed::Operation),
     })
 }
@@ -228,7 +225,6 @@ impl<'a> Call<'a> {
             Call::OfFirmware(call) => call.operation(),
             Call::Fresh => 0xF0,
             Call::Constants => 0xF1,
-            Call::Halve { .. } => 0xF2,
         }
     }
 
@@ -268,7 +264,6 @@ impl<'a> Call<'a> {
             Call::OfTime(ref call) => call.put(line),
             Call::OfFirmware(ref call) => call.put(line),
             Call::Fresh | Call::Constants => {}
-            Call::Halve { first, second } => put_numbers([first as u64, second as u64], line),
         }
     }
 }

@@ -115,7 +115,6 @@ impl Boundaries {
             Call::OfExtension(ref call) => extensions::extension_call(m, call, answer, outcome),
             Call::OfTime(ref call) => times::time_call(m, call, answer, outcome),
             Call::OfFirmware(ref call) => firmware::firmware_call(m, call, answer, outcome),
-            Call::Halve { first, second } => timestamps::halve(m, first.into(), second.into()),
             Call::Fresh | Call::Constants => {}
         }
     }

@@ -13,7 +13,7 @@ use crate::refusal::Refusal::{self, *};
 
 /// Each number that each call can give, beside 00. Calls for a record of a list have one more, and
 /// those of firmware have 46 in place of 29.
-const REFUSALS: [(u8, &[Refusal]); 32] = [
+const REFUSALS: [(u8, &[Refusal]); 31] = [
     (DIFFERENCE, &[]),
     (0x02, &MEASURE_REFUSALS),
     (0x03, &[PacketLengthWrong]),
@@ -45,7 +45,6 @@ const REFUSALS: [(u8, &[Refusal]); 32] = [
     (0x1D, &REPLY_REFUSALS),
     (0xF0, &[]),
     (0xF1, &[]),
-    (0xF2, &[]),
 ];
 
 const MEASURE_REFUSALS: [Refusal; 6] = [
@@ -155,9 +154,9 @@ const MALFORMED: [&str; 27] = [
 ];
 
 /// Operations whose lines can be too short and too long, and those that can be too long alone.
-const SHORT_AND_LONG: [u8; 21] = [
+const SHORT_AND_LONG: [u8; 20] = [
     0x08, 0x09, 0x0A, 0x0B, 0x0C, 0x0D, 0x0E, 0x0F, 0x10, 0x11, 0x12, 0x14, 0x15, 0x16, 0x17, 0x19,
-    0x1A, 0x1B, 0x1C, 0x1D, 0xF2,
+    0x1A, 0x1B, 0x1C, 0x1D,
 ];
 const LONG: [u8; 4] = [0x03, 0x13, 0x18, 0xF0];
 

@@ -17,7 +17,7 @@ pub const RARE: u64 = 50;
 pub fn put_call(r: &mut Random, line: &mut Vec<u8>) {
     match r.below(196) {
         0..=2 => plain_calls::difference(r, line),
-        3..=12 => plain_calls::measure(r, line),
+        3..=12 | 99 => plain_calls::measure(r, line),
         13..=16 => plain_calls::read_fields(r, line),
         17..=21 => plain_calls::write_fields(r, line),
         22..=26 => calendar_calls::date_of_timestamp(r, line),
@@ -29,7 +29,6 @@ pub fn put_call(r: &mut Random, line: &mut Vec<u8>) {
         88..=97 => server_calls::reply(r, line),
         98 if r.one_in(2) => Call::Fresh.put(line),
         98 => Call::Constants.put(line),
-        99 => plain_calls::halve(r, line),
         100 | 101 => ledger_calls::entry(r, line),
         102 | 103 => ledger_calls::tick(r, line),
         104..=111 => list_calls::ask(r, line),

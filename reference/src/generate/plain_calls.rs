@@ -60,24 +60,6 @@ fn measured(r: &mut Random) -> [u64; 4] {
     [t1, reply.fields.receive, reply.fields.transmit, reply.t4]
 }
 
-/// The 64 bits of P or Q, often near zero, an end of the range, or half of that.
-fn any_difference(r: &mut Random) -> u64 {
-    let near: u64 = r.pick([0, 1 << 62, 1 << 63, 3 << 62]);
-    if r.one_in(2) { timestamp(r) } else { near.wrapping_add(r.below(8)).wrapping_sub(4) }
-}
-
-pub fn halve(r: &mut Random, line: &mut Vec<u8>) {
-    let first = any_difference(r);
-    let second = match r.below(5) {
-        0 => around(r, first),
-        // The sum is about zero, or about where it leaves 64 bits.
-        1 => around(r, 0u64.wrapping_sub(first)),
-        2 => around(r, (1u64 << 63).wrapping_sub(first)),
-        _ => any_difference(r),
-    };
-    Call::Halve { first: first as i64, second: second as i64 }.put(line);
-}
-
 /// Fields with any values that fit their bits.
 pub fn any_fields(r: &mut Random) -> Fields {
     Fields {

@@ -116,8 +116,8 @@ fn ends_and_sums(m: &mut Marks, p: i128, q: i128, held: bool) {
     sums.into_iter().for_each(|(name, sum)| m.see(name, held && p + q == sum));
 }
 
-/// P and Q at the lower end of their range, which F2 has one unit below that of an exchange. The
-/// names are those of the end and of a sum one above twice that.
+/// P and Q at the lower end of their range. The names are those of the end and of a sum one above
+/// twice that.
 fn lower_ends(m: &mut Marks, names: [&str; 2], least: i128, [p, q]: [i128; 2], held: bool) {
     let [end, sum] = names;
     m.see_with("Q=", end, held && q == least && p > q);
@@ -184,28 +184,4 @@ fn order_about_no_order(m: &mut Marks, x: &Exchange, outcome: Outcome) {
 pub fn measure(m: &mut Marks, t: [u64; 4], outcome: Outcome) {
     exchange(m, t, outcome);
     m.see("zero-taken", outcome.passed() && t.contains(&0));
-}
-
-pub fn halve(m: &mut Marks, p: i128, q: i128) {
-    let sum = p + q;
-    ends_and_sums(m, p, q, true);
-    lower_ends(m, ["-2^63", "-2^64+1"], -HALF, [p, q], true);
-    m.see("P=-2^63", p == -HALF && p < q);
-    m.see("Q=2^63-1", q == HALF - 1 && p < q);
-    m.see_each("P=", -2..=2, |value| p == value);
-    m.see_each("Q=", -2..=2, |value| q == value);
-    m.see_each("P+Q=", -2..=2, |value| sum == value);
-    odd(m, "", p, q, (0..HALF).contains(&sum));
-    odd(m, "below-zero-", p, q, (-HALF..0).contains(&sum));
-    odd(m, "above-64-bits-", p, q, sum >= HALF);
-    odd(m, "below-64-bits-", p, q, sum < -HALF);
-}
-
-/// Which of P and Q are odd; the names begin with the given word.
-fn odd(m: &mut Marks, word: &str, p: i128, q: i128, held: bool) {
-    let (p_odd, q_odd) = (p % 2 != 0, q % 2 != 0);
-    m.see_with(word, "none-odd", held && !p_odd && !q_odd);
-    m.see_with(word, "P-odd", held && p_odd && !q_odd);
-    m.see_with(word, "Q-odd", held && !p_odd && q_odd);
-    m.see_with(word, "both-odd", held && p_odd && q_odd);
 }

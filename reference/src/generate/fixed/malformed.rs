@@ -284,7 +284,6 @@ pub fn put_lines(lines: &mut Lines) {
     put_lengths(lines, 0x0A, 36);
     put_lengths(lines, 0x0C, 17);
     put_lengths(lines, 0x0D, 16);
-    put_lengths(lines, 0xF2, 16);
     put_without_tokens(lines);
     put_lists(lines);
     put_broadcasts(lines);

@@ -80,18 +80,7 @@ fn put_differences(lines: &mut Lines) {
     }
 }
 
-fn put_sums(lines: &mut Lines) {
-    const FAR: i64 = 1 << 62;
-    let below = [i64::MIN, i64::MIN + 1, -FAR - 1, -FAR, 1 - FAR, -2, -1];
-    let above = [0, 1, 2, FAR - 1, FAR, FAR + 1, i64::MAX - 1, i64::MAX];
-    let both = [&below[..], &above].concat();
-    for (first, second) in pairs(&both, &both) {
-        lines.call(Call::Halve { first, second });
-    }
-}
-
 pub fn put_lines(lines: &mut Lines) {
     put_exchanges(lines);
     put_differences(lines);
-    put_sums(lines);
 }

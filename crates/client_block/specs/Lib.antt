@@ -1,4 +1,0 @@
-pub mod Digest
-pub mod Ask
-pub mod Arrival
-pub mod Laws

@@ -1,4 +1,0 @@
-pub mod Sum
-pub mod Read
-pub mod Write
-pub mod Laws
