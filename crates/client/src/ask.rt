@@ -45,7 +45,7 @@ impl Client {
         if phase.is_waiting() {
             return refusals::ALREADY_WAITING;
         }
-        if self.asked & within_interval(self.uptime, self.exponent, uptime) {
+        if self.asked && within_interval(self.uptime, self.exponent, uptime) {
             return refusals::ASKED_TOO_SOON;
         }
         0

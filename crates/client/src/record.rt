@@ -1,6 +1,11 @@
 // The phases, the fresh record, and which records are legal.
 ghost use mathlib.Core.Path.{_≡_};
-ghost use Rattle.client.specs.Record.{isIdle, isWaiting, isStopped, fresh, isFresh, illegal, withoutRequest, backOff};
+ghost use mathlib.Core.Bool.{not, _&&_, _||_};
+ghost use lib.Dec.{eqb};
+ghost use Rattle.ordered_tests.specs.Tests.{between};
+ghost use Rattle.timestamp.specs.Timestamp.{isZero};
+ghost use Rattle.token.specs.Token.{isZeroToken};
+ghost use Rattle.client.specs.Record.{isIdle, isWaiting, isStopped, fresh, illegal, withoutRequest, backOff};
 use crate::Client;
 use crate::Phase;
 use ordered_tests::between;
@@ -55,34 +60,32 @@ impl Client {
         }
     }
 
-    pub(crate) fn is_fresh(self) -> bool
-        ensures { λ r. ⌜ r ≡ isFresh self ⌝ }
+    // Each part of the request is zero if and only if the client does not wait.
+    fn illegal_request(self) -> bool
+        ensures { λ r. ⌜ r ≡ (isWaiting (self .phase) && (isZero (self .t1) || isZeroToken (self .token) || not (between 1 4 (self .version)))) || (not (isWaiting (self .phase)) && not (isZero (self .t1) && isZeroToken (self .token) && eqb (self .version) 0)) ⌝ }
     {
         let phase = self.phase;
         let t1 = self.t1;
         let token = self.token;
-        phase.is_idle()
-            & t1.is_zero()
-            & token.is_zero()
-            & (self.version == 0)
-            & !self.asked
-            & (self.uptime == 0)
-            & (self.exponent == 6)
+        let waiting = phase.is_waiting();
+        (t1.is_zero() == waiting)
+            | (token.is_zero() == waiting)
+            | ((self.version == 0) == waiting)
+            | (4 < self.version)
     }
 
+    // A record that passes the first test and never asked is fresh if its phase, uptime and exponent are.
     pub fn illegal(self) -> bool
         ensures { λ r. ⌜ r ≡ illegal self ⌝ }
     {
         let phase = self.phase;
-        let waiting = phase.is_waiting();
-        let t1 = self.t1;
-        let token = self.token;
-        let no_t1 = t1.is_zero();
-        let no_token = token.is_zero();
-        !between(6, 14, self.exponent)
-            | (waiting & (no_t1 | no_token | !between(1, 4, self.version)))
-            | (!waiting & !(no_t1 & no_token & (self.version == 0)))
-            | (!self.asked & !self.is_fresh())
+        if !between(6, 14, self.exponent) | self.illegal_request() {
+            return true;
+        }
+        if self.asked {
+            return false;
+        }
+        !(phase.is_idle() & (self.uptime == 0) & (self.exponent == 6))
     }
 
     // The record without a request.

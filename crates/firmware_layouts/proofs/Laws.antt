@@ -1,6 +1,6 @@
 -- Each legal record has one image, and each image is that of one legal record.
 use mathlib.Core.Path.{_≡_, refl, sym, ap, subst, _∙_}
-use mathlib.Core.Bool.{Bool, true, false, _||_}
+use mathlib.Core.Bool.{Bool, true, false}
 use mathlib.Core.List.{List, [], _∷_, _++_}
 use Prim.Native.Nat.{ℕ, zero, suc, _+_, _-_, _^_, _≤_, _<_}
 use native.Mathlib.Nat.{mod-eq-of-lt}
@@ -9,8 +9,7 @@ use borrow.Author.Tests.{eq-eqb}
 use lib.Dec.{eqb}
 use lib.ListN.{length, getD}
 use lib.Seq.{take-all}
-use Rattle.ordered_tests.specs.Tests.{between}
-use Rattle.ordered_tests.proofs.Reflection.{WhereTrue, conjoined, is-true, isnt-true, not-above, equal, within}
+use Rattle.ordered_tests.proofs.Reflection.{WhereTrue, conjoined, is-true, isnt-true, not-above, equal}
 use Rattle.arithmetic.specs.Octets.{bigEndian, octets, part, AreOctets}
 use Rattle.arithmetic.proofs.Octets.{bigEndian-octets, octets-number, number-lt, part-add, part-four}
 use Rattle.slices.specs.Slices.{readAt}
@@ -21,10 +20,11 @@ use Rattle.client.specs.declared.Phase.{Phase}
 use Rattle.client.specs.declared.Phase.the-variants.{Idle, Waiting, Stopped}
 use Rattle.client.specs.declared.Client.{Client}
 use Rattle.client.specs.Record.{illegal}
+use Rattle.client.proofs.Exponent.{exponents}
 use Rattle.firmware_layouts.specs.Image.{octetOfPhase, octetOfFlag, imageOf, phaseOf, recordIn, hasLegalValues, isImage, imageRead, withImage}
 use Rattle.firmware_layouts.specs.Laws.{Typed, IsImageOf, Laws}
 use Rattle.firmware_layouts.specs.declared.ImageAnswer.{ImageAnswer}
-use Rattle.firmware_layouts.proofs.Layouts.{length-image, not-false}
+use Rattle.firmware_layouts.proofs.Layouts.{length-image}
 
 phase-back : (p : Phase) → phaseOf (octetOfPhase p) ≡ p
 phase-back Idle = refl
@@ -94,14 +94,6 @@ tested image =
     }
 
 -- ---- the image of a legal record
-
-first : (a b c d : Bool) → a || b || c || d ≡ false → a ≡ false
-first true b c d e = e
-first false b c d e = refl
-
-exponents : (c : Client) → illegal c ≡ false → (6 ≤ c .exponent) × (c .exponent ≤ 14)
-unfolding illegal
-exponents c e = within 6 14 (c .exponent) .from (is-true (between 6 14 (c .exponent)) .to (not-false (between 6 14 (c .exponent)) (first _ _ _ _ e)))
 
 pub record-back : (c : Client) → Typed c → illegal c ≡ false → recordIn (imageOf c) ≡ c
 record-back c k l = fields-back c k (exponents c l .0)

@@ -33,17 +33,17 @@ pub enum ImageAnswer {
 
 // ---- the image, read
 
-// Any other octet than 0 and 1 is taken for stopped.
+// Any other octet than 0 and 1 is taken for stopped. In this order the compiler finds that the octets 0 to 2 are the phases' own numbers.
 pub fn phase_of(octet: u8) -> Phase
     ensures { λ r. ⌜ r ≡ phaseOf octet ⌝ }
 {
-    if octet == 0 {
-        return Phase::Idle;
+    if 1 < octet {
+        return Phase::Stopped;
     }
     if octet == 1 {
         return Phase::Waiting;
     }
-    Phase::Stopped
+    Phase::Idle
 }
 
 // The octets that have few values have one of them.

@@ -14,10 +14,11 @@ use Rattle.arithmetic.proofs.Octets.{length-octets, octets-bigEndian}
 use Rattle.refusals.specs.Numbers.{packet-length-wrong}
 use Rattle.ordered_tests.specs.Tests.{_if_else_, otherwise, answer}
 use Rattle.extension.specs.Reading.{isMalformed}
+use Rattle.extension.proofs.Reading.{taken-false}
 use Rattle.packet.specs.declared.Fields.{Fields}
 use Rattle.packet.specs.declared.FieldsAnswer.{FieldsAnswer}
 use Rattle.packet.specs.declared.WriteAnswer.{WriteAnswer}
-use Rattle.packet.specs.Packet.{fieldsOf, octetsOf, readAnswer, fieldTooLarge, writeAnswer, written}
+use Rattle.packet.specs.Packet.{fieldsOf, octetsOf, headerAnswer, readAnswer, fieldTooLarge, writeAnswer, written}
 
 pub length-octetsOf : (f : Fields) → length (octetsOf f) ≡ 48
 unfolding octetsOf
@@ -65,6 +66,10 @@ by-test : (malformed : Bool) (f : Fields) (P : Bool → FieldsAnswer → Type 0)
     → P malformed (answer FieldsAnswer.Refused (packet-length-wrong if malformed else otherwise (FieldsAnswer.Fields f)))
 by-test true f P x y = x
 by-test false f P x y = y
+
+-- the first 48 octets of what is not malformed
+pub header-fields : (p : List ℕ) → isMalformed p ≡ false → headerAnswer p ≡ FieldsAnswer.Fields (fieldsOf p)
+header-fields p e = rw (le-ltb _ _ (taken-false p e .at-least-48))
 
 pub read-refused : (p : List ℕ) {n : ℕ} → readAnswer p ≡ FieldsAnswer.Refused n → (isMalformed p ≡ true) × (packet-length-wrong ≡ n)
 read-refused p {n} =

@@ -67,7 +67,20 @@ packetCount packets = length packets / packetLength
 abbrev pub packetAt : ℕ → List ℕ → List ℕ
 packetAt k packets = part (packetLength * k) packetLength packets
 
--- reading refuses by 7 only
+-- a slice that has not the octets of a packet
+abbrev pub tooShort : List ℕ → Bool
+tooShort buffer = ltb (length buffer) packetLength
+
+-- reading the first 48 octets refuses by 7 what is shorter
+abbrev pub headerTests : List ℕ → Tests FieldsAnswer
+headerTests packet =
+    packet-length-wrong if tooShort packet else
+    otherwise (FieldsAnswer.Fields (fieldsOf packet))
+
+abbrev pub headerAnswer : List ℕ → FieldsAnswer
+headerAnswer packet = answer FieldsAnswer.Refused (headerTests packet)
+
+-- reading a packet refuses by 7 only
 abbrev pub readTests : List ℕ → Tests FieldsAnswer
 readTests packet =
     packet-length-wrong if isMalformed packet else
@@ -76,10 +89,7 @@ readTests packet =
 abbrev pub readAnswer : List ℕ → FieldsAnswer
 readAnswer packet = answer FieldsAnswer.Refused (readTests packet)
 
--- a buffer with no room for a packet; a field that is too large to write
-abbrev pub tooShort : List ℕ → Bool
-tooShort buffer = ltb (length buffer) packetLength
-
+-- a field that is too large to write
 abbrev pub fieldTooLarge : Fields → Bool
 fieldTooLarge f = ltb 3 (f .leap) || ltb 7 (f .version) || ltb 7 (f .mode)
 

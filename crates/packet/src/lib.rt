@@ -6,7 +6,7 @@ ghost use mathlib.Core.List.{_++_, reverse};
 ghost use lib.ListN.{length, take};
 ghost use lib.Seq.{sets};
 ghost use Rattle.arithmetic.specs.Octets.{octets};
-ghost use Rattle.packet.specs.Packet.{packetLength, fieldsOf, octetsOf, fieldTooLarge, readAnswer, writeAnswer, written};
+ghost use Rattle.packet.specs.Packet.{packetLength, fieldsOf, octetsOf, fieldTooLarge, headerAnswer, readAnswer, writeAnswer, written};
 use timestamp::Timestamp;
 
 // The octets of a packet that has neither extension fields nor an authenticator.
@@ -63,6 +63,16 @@ fn read_fields(p: &[u8]) -> Fields
     }
 }
 
+// Reads the first 48 octets, whatever stands behind them. The slice is cut to a known length, so no field needs a test.
+pub fn read_header(packet: &[u8]) -> FieldsAnswer
+    ensures { λ r. ⌜ r ≡ headerAnswer (now (packet .entry)) ⌝ }
+{
+    if packet.len() < LENGTH {
+        return FieldsAnswer::Refused(refusals::PACKET_LENGTH_WRONG);
+    }
+    FieldsAnswer::Fields(read_fields(&packet[..LENGTH]))
+}
+
 // Reads the first 48 octets of a packet. Its extension fields and its authenticator are not read.
 pub fn read(packet: &[u8]) -> FieldsAnswer
     ensures { λ r. ⌜ r ≡ readAnswer (now (packet .entry)) ⌝ }
@@ -70,7 +80,7 @@ pub fn read(packet: &[u8]) -> FieldsAnswer
     if extension::is_malformed(packet) {
         return FieldsAnswer::Refused(refusals::PACKET_LENGTH_WRONG);
     }
-    FieldsAnswer::Fields(read_fields(packet))
+    read_header(packet)
 }
 
 // Stores the octets of four timestamps from index at on.

@@ -1,9 +1,11 @@
 // The SNTP server for unicast exchanges (RFC 4330, section 6). It keeps nothing.
 ghost use mathlib.Core.Path.{_≡_};
 ghost use Prim.Native.Nat.{_≤_};
+ghost use mathlib.Core.Bool.{not, _||_};
 ghost use mathlib.Core.List.{_++_};
 ghost use lib.ListN.{length, drop};
 ghost use Rattle.ordered_tests.specs.Tests.{number, answer, kept};
+ghost use Rattle.timestamp.specs.Timestamp.{_since_, noOrder, negative};
 ghost use Rattle.packet.specs.Packet.{packetLength, octetsOf};
 ghost use Rattle.server.specs.Server.{requestTests, replyMessage, replyFields, replied, repliedBuffer};
 use ordered_tests::between;
@@ -20,7 +22,14 @@ pub enum ReplyAnswer {
     Written,
 }
 
-// The tests in order, of a request with these fields.
+// Whether T3 is T2 or ordered after it. One comparison tells; the rules have two tests.
+fn in_order(t2: Timestamp, t3: Timestamp) -> bool
+    ensures { λ r. ⌜ r ≡ not (noOrder (t3 since t2) || negative (t3 since t2)) ⌝ }
+{
+    std::num::wrapping_sub_u64(t3.0, t2.0) < 0x8000_0000_0000_0000
+}
+
+// The tests in order, of a request with these fields. Most requests pass the last two, so one comparison for both comes first.
 fn first_refusal(settings: Settings, request: Fields, t2: Timestamp, t3: Timestamp) -> u8
     ensures { λ r. ⌜ r ≡ number (requestTests settings request t2 t3) ⌝ }
 {
@@ -38,6 +47,9 @@ fn first_refusal(settings: Settings, request: Fields, t2: Timestamp, t3: Timesta
     }
     if t2.is_zero() | t3.is_zero() {
         return refusals::SERVER_TIMESTAMP_ZERO;
+    }
+    if in_order(t2, t3) {
+        return 0;
     }
     let Difference::Units(hold) = t3.minus(t2) else {
         return refusals::NO_ORDER;
@@ -97,7 +109,11 @@ pub fn reply(
     if buffer.len() < packet::LENGTH {
         return ReplyAnswer::Refused(refusals::BUFFER_TOO_SHORT);
     }
-    match packet::read(request) {
+    // `packet::read` in two steps: with one caller less the compiler inlines it in the client's calls.
+    if extension::is_malformed(request) {
+        return ReplyAnswer::Refused(refusals::PACKET_LENGTH_WRONG);
+    }
+    match packet::read_header(request) {
         FieldsAnswer::Refused(number) => ReplyAnswer::Refused(number),
         FieldsAnswer::Fields(fields) => reply_to(settings, fields, t2, t3, buffer),
     }

@@ -1,5 +1,5 @@
 -- `server::first_refusal` meets its contract: each return is at its row of the table. Assumes nothing.
-use mathlib.Core.Path.{_≡_, refl, _∙_}
+use mathlib.Core.Path.{_≡_, refl, sym, _∙_}
 use mathlib.Core.Bool.{Bool, true, false, not, _&&_, _||_}
 use borrow.Author.Tests.{eq-eqb, ne-eqb}
 use mir.Syntax.{w64}
@@ -85,19 +85,40 @@ at-4 : (c : tie.Else5) → At 4 (table (start5 (c .before)))
 unfolding requestTests
 at-4 c = goes-on (at-3 (c .before .before .before .before .before)) (zero (c .before) ∙ c .if5 .left)
 
+neither : (a b : Bool) → not (a || b) ≡ true → (a ≡ false) × (b ≡ false)
+neither true b e = (cc, cc)
+neither false true e = (cc, cc)
+neither false false e = (refl, refl)
+
 returns-6 : tie.Need-returns-6
 unfolding requestTests
 returns-6 c =
+    let i = c .before in
+    let a = start5 (i .before .before) .args in
+    let e = i .before .before .before .before .if4 .left in
+    let n = neither _ _ (sym (i .in-order .ensures) ∙ c .if6 .taken) in
+    let ordered = synchronised (a .settings .synchronised) (noOrder (a .t3 since a .t2)) e ∙ n .0 in
+    let after = synchronised (a .settings .synchronised) (negative (a .t3 since a .t2)) e ∙ n .1 in
+    returned (goes-on (goes-on (at-4 (i .before)) ordered) after) refl
+
+returns-7 : tie.Need-returns-7
+unfolding requestTests
+returns-7 c =
     let m = c .before .before in
-    let a = start5 (m .before .before) .args in
-    let e = m .before .before .before .before .if4 .left in
-    returned (at-4 (m .before)) (synchronised (a .settings .synchronised) (noOrder (a .t3 since a .t2)) e ∙ unordered _ _ (m .minus .ensures) (c .enum-told .given .1))
+    let f = m .before .before .before in
+    let a = start5 (f .before) .args in
+    let e = f .before .before .before .if4 .left in
+    returned (at-4 f) (synchronised (a .settings .synchronised) (noOrder (a .t3 since a .t2)) e ∙ unordered _ _ (m .minus .ensures) (c .enum-told .given .1))
+
+-- behind the test of T2 and T3 for zero
+abbrev nonzero : tie.After-known-told → tie.Else5
+nonzero c = c .before .before .before .before .before .before
 
 abbrev start6 : tie.After-known-told → tie.Start
-start6 c = start5 (c .before .before .before .before .before)
+start6 c = start5 (nonzero c .before)
 
 yes : (c : tie.After-known-told) → not (start6 c .args .settings .synchronised) ≡ false
-yes c = c .before .before .before .before .before .before .before .if4 .left
+yes c = nonzero c .before .before .before .if4 .left
 
 hold : (c : tie.After-known-told) → let a = start6 c .args in (noOrder (a .t3 since a .t2) ≡ false) × (held w64 (c .before .hold .given .0 .0) ≡ a .t3 since a .t2)
 hold c = taken _ _ (c .before .before .before .minus .ensures) (c .before .hold .given .1)
@@ -106,20 +127,21 @@ at-5 : (c : tie.After-known-told) → At 5 (table (start6 c))
 unfolding requestTests
 at-5 c =
     let a = start6 c .args in
-    goes-on (at-4 (c .before .before .before .before)) (synchronised (a .settings .synchronised) (noOrder (a .t3 since a .t2)) (yes c) ∙ hold c .0)
+    goes-on (at-4 (nonzero c)) (synchronised (a .settings .synchronised) (noOrder (a .t3 since a .t2)) (yes c) ∙ hold c .0)
 
 -- the test of T3 - T2 for its sign, as the table has it
 reversed : (c : tie.After-known-told) → let a = start6 c .args in (a .settings .synchronised && negative (a .t3 since a .t2)) ≡ negative (held w64 (c .before .hold .given .0 .0))
 reversed c = let a = start6 c .args in rw (hold c .1) (synchronised (a .settings .synchronised) (negative (a .t3 since a .t2)) (yes c))
 
-returns-7 : tie.Need-returns-7
-unfolding requestTests
-returns-7 c = returned (at-5 (c .before)) (reversed (c .before) ∙ c .if6 .taken)
-
 returns-8 : tie.Need-returns-8
 unfolding requestTests
-returns-8 c = returned (goes-on (at-5 (c .before)) (reversed (c .before) ∙ c .if6 .left)) refl
+returns-8 c = returned (at-5 (c .before)) (reversed (c .before) ∙ c .if7 .taken)
+
+returns-9 : tie.Need-returns-9
+unfolding requestTests
+returns-9 c = returned (goes-on (at-5 (c .before)) (reversed (c .before) ∙ c .if7 .left)) refl
 
 pub first-refusal-spec : {M : Type 1} → statement M
 first-refusal-spec =
-    tie.close (tie.spec returns _ returns-2 _ returns-3 returns-4 _ _ returns-5 _ (λ c. search needs) (λ c. search needs) returns-6 returns-7 returns-8)
+    tie.close
+    (tie.spec returns _ returns-2 _ returns-3 returns-4 _ _ returns-5 _ returns-6 _ (λ c. search needs) (λ c. search needs) returns-7 returns-8 returns-9)

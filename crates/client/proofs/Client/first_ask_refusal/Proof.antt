@@ -1,8 +1,12 @@
 -- `client::Client::first_ask_refusal` meets its contract: each return is at its row of the table. Assumes nothing.
-use mathlib.Core.Path.{refl}
+use Prim.Native.Nat.{_^_}
+use mathlib.Core.Path.{_≡_, refl, sym, _∙_}
+use mathlib.Core.Bool.{Bool, true, false, _&&_}
+use mathlib.Core.Logic.{⊎-elim}
 use borrow.Author.Tests.{lt-ltb, le-ltb}
 use Rattle.ordered_tests.specs.Tests.{Tests}
 use Rattle.ordered_tests.proofs.Tests.{At, starts, goes-on, returned}
+use Rattle.poll.specs.Poll.{tooSoon}
 use Rattle.client.specs.declared.Called.{Called}
 use Rattle.client.specs.Ask.{askTests}
 use Rattle.client.proofs.Client.first_ask_refusal.Statement.{statement}
@@ -70,13 +74,45 @@ at-7 : (c : tie.Else7) → At 7 (table (start (c .before .before .before .before
 unfolding askTests
 at-7 c = goes-on (at-6 (c .before .before)) (rw (c .before .is-waiting .ensures) at (c .if7 .left))
 
+-- the two parts of the last test
+module _ (a b : Bool) where
+  both : a ≡ true → b ≡ true → a && b ≡ true
+  both e f = rw (e, f)
+
+  not-first : a ≡ false → a && b ≡ false
+  not-first e = rw e
+
+  not-second : b ≡ false → a && b ≡ false
+  not-second e = rw e (go a)
+    where
+      go : (a : Bool) → a && false ≡ false
+      go true = refl
+      go false = refl
+
 returns-8 : tie.Need-returns-8
 unfolding askTests
-returns-8 c = let soon = c .before .before in returned (at-7 (soon .before)) (rw (soon .within-interval .ensures) at (c .if8 .taken))
+returns-8 c =
+    let soon = c .before in
+    returned (at-7 (soon .before .before)) (both _ _ (soon .before .if8 .taken) (sym (soon .within-interval .ensures) ∙ c .if9 .taken))
+
+abbrev asks-again : tie.Joined8 → Bool
+asks-again c = start (c .before .before .before .before .before .before .before .before .before) .args .self .asked
+
+abbrev within : tie.Joined8 → Bool
+within c =
+    let a = start (c .before .before .before .before .before .before .before .before .before) .args in
+    tooSoon (a .self .uptime) (2 ^ a .self .exponent) (a .uptime)
+
+not-soon : (c : tie.Joined8) → (asks-again c && within c) ≡ false
+not-soon c =
+    ⊎-elim
+    (λ w. not-second (asks-again c) (within c) (sym (w .1 .ensures) ∙ w .2 .left))
+    (λ w. not-first (asks-again c) (within c) (w .left))
+    (c .if8 .came)
 
 returns-9 : tie.Need-returns-9
 unfolding askTests
-returns-9 c = let soon = c .before .before in returned (goes-on (at-7 (soon .before)) (rw (soon .within-interval .ensures) at (c .if8 .left))) refl
+returns-9 c = returned (goes-on (at-7 (c .before)) (not-soon c)) refl
 
 pub first-ask-refusal-spec : {M : Type 1} → statement M
 first-ask-refusal-spec = tie.close (tie.spec _ returns returns-2 _ returns-3 _ returns-4 _ returns-5 _ returns-6 _ returns-7 _ returns-8 returns-9)
