@@ -13,7 +13,7 @@ use Rattle.client.specs.declared.Client.{Client}
 use Rattle.client.specs.declared.Phase.{Phase}
 use Rattle.client.specs.declared.Phase.the-variants.{Idle, Waiting, Stopped}
 use Rattle.client.specs.Record.{isStopped}
-use Rattle.in_use.specs.declared.Alternate.{Alternate}
+use Rattle.association_rules.specs.declared.Alternate.{Alternate}
 use Rattle.association_rules.specs.Associations.{association, round, firstRunning, alternate}
 use Rattle.association_rules.specs.Alternates.{IsStopped, StoppedBefore, First, Alternates}
 

@@ -7,7 +7,7 @@ use mir.Facts.{or-no, and-yes, T-not-not, ltb-yes, leb-yes}
 use Rattle.ordered_tests.specs.Tests.{between, otherwise, number, answer, answerOf, pass}
 use Rattle.ordered_tests.proofs.Tests.{before-refused, before-passed}
 use Rattle.association_rules.specs.declared.Table.{Table}
-use Rattle.in_use.specs.InUse.{outside}
+use Rattle.association_rules.specs.InUse.{outside}
 use Rattle.association_rules.specs.Table.{tableTests}
 
 module _ {A : Type 0} (say : ℕ → A) (t : Table) (at inUse : ℕ) (a : A) where

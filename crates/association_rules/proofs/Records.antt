@@ -1,4 +1,4 @@
--- Records of a list, and of its first eight.
+-- Records of a list, and the standings of its first eight.
 use Prim.Native.Nat.{ℕ, zero, suc, _≤_, _<_}
 use mathlib.Core.Path.{_≡_, refl, sym, ap}
 use mathlib.Core.List.{List, [], _∷_}
@@ -6,12 +6,12 @@ use native.Mathlib.Nat.{not-suc-le-zero, le-of-suc-le-suc}
 use native.Mathlib.Omega.{arith}
 use lib.ListN.{length, getD, set, List·getD-eq-default}
 use Rattle.client.specs.declared.Client.{Client}
-use Rattle.client.specs.Record.{fresh, illegal}
+use Rattle.client.specs.Record.{fresh, isStopped, illegal}
 use Rattle.association_rules.specs.Associations.{anyIllegal, association}
-use Rattle.association_rules.specs.Table.{eight}
+use Rattle.association_rules.specs.Table.{whichStopped, stoppedAt, oneIllegal, eight}
 
 -- within a list it is all one what is read past its end
-pub within : (list : List Client) (i : ℕ) (c d : Client) → i < length list → getD list i c ≡ getD list i d
+pub within : {A : Type 0} (list : List A) (i : ℕ) (c d : A) → i < length list → getD list i c ≡ getD list i d
 within [] i c d h = absurd (not-suc-le-zero h)
 within (first ∷ rest) zero c d h = refl
 within (first ∷ rest) (suc i) c d h = within rest i c d (le-of-suc-le-suc h)
@@ -22,21 +22,21 @@ set-past [] i c h = refl
 set-past (first ∷ rest) zero c h = absurd (not-suc-le-zero h)
 set-past (first ∷ rest) (suc i) c h = ap (λ l. first ∷ l) (set-past rest i c (le-of-suc-le-suc h))
 
--- ---- a list of at most eight records: its first eight are all of it
+-- ---- a list of at most eight records: the standings of its first eight are those of all
 
-pub same-records : (list : List Client) → length list ≤ 8 → (i : ℕ) → association (eight list) i ≡ association list i
-same-records list few zero = refl
-same-records list few (suc zero) = refl
-same-records list few (suc (suc zero)) = refl
-same-records list few (suc (suc (suc zero))) = refl
-same-records list few (suc (suc (suc (suc zero)))) = refl
-same-records list few (suc (suc (suc (suc (suc zero))))) = refl
-same-records list few (suc (suc (suc (suc (suc (suc zero)))))) = refl
-same-records list few (suc (suc (suc (suc (suc (suc (suc zero))))))) = refl
-same-records list few (suc (suc (suc (suc (suc (suc (suc (suc i)))))))) = sym (List·getD-eq-default list fresh (omega arith))
+pub same-stopped : (list : List Client) → length list ≤ 8 → (i : ℕ) → stoppedAt (whichStopped (eight list)) i ≡ isStopped (association list i .phase)
+same-stopped list few zero = refl
+same-stopped list few (suc zero) = refl
+same-stopped list few (suc (suc zero)) = refl
+same-stopped list few (suc (suc (suc zero))) = refl
+same-stopped list few (suc (suc (suc (suc zero)))) = refl
+same-stopped list few (suc (suc (suc (suc (suc zero))))) = refl
+same-stopped list few (suc (suc (suc (suc (suc (suc zero)))))) = refl
+same-stopped list few (suc (suc (suc (suc (suc (suc (suc zero))))))) = refl
+same-stopped list few (suc (suc (suc (suc (suc (suc (suc (suc i)))))))) = ap (λ (c : Client). isStopped (c .phase)) (sym (List·getD-eq-default list fresh (omega arith)))
 
-pub same-illegal : (list : List Client) → length list ≤ 8 → anyIllegal (eight list) ≡ anyIllegal list
-unfolding anyIllegal illegal
+pub same-illegal : (list : List Client) → length list ≤ 8 → oneIllegal (eight list) ≡ anyIllegal list
+unfolding anyIllegal oneIllegal illegal
 same-illegal [] few = refl
 same-illegal (a ∷ []) few = refl
 same-illegal (a ∷ b ∷ []) few = refl

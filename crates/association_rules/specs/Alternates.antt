@@ -6,7 +6,7 @@ use mathlib.Core.List.{List}
 use lib.ListN.{length}
 use Rattle.client.specs.declared.Client.{Client}
 use Rattle.client.specs.declared.Phase.the-variants.{Stopped}
-use Rattle.in_use.specs.declared.Alternate.{Alternate}
+use Rattle.association_rules.specs.declared.Alternate.{Alternate}
 use Rattle.association_rules.specs.Associations.{association, round, alternate}
 
 module _ (list : List Client) where

@@ -16,8 +16,8 @@ use Rattle.client.specs.Record.{fresh, isStopped, illegal}
 use Rattle.client.specs.Ask.{afterAsk, afterAskBuffer}
 use Rattle.client.specs.Arrival.{arrived}
 use Rattle.client.specs.GiveUp.{gaveUp}
-use Rattle.in_use.specs.declared.Alternate.{Alternate}
-use Rattle.in_use.specs.InUse.{outside, exists, useAfter}
+use Rattle.association_rules.specs.declared.Alternate.{Alternate}
+use Rattle.association_rules.specs.InUse.{outside, exists, useAfter}
 use Rattle.association_rules.specs.declared.ListCalled.{ListCalled}
 use Rattle.association_rules.specs.declared.ListArrived.{ListArrived}
 
@@ -39,11 +39,11 @@ listTests list at inUse rest =
 abbrev pub association : List Client → ℕ → Client
 association list at = getD list at fresh
 
--- the number k places after `at`, round a list of so many records
+-- the number k places after `at`, round a list of this count
 abbrev pub round : (count at k : ℕ) → ℕ
 round count at k = (at + k) % count
 
--- of so many records, `left` of them, from k places after `at` on: the first that is not stopped
+-- of the `left` records from k places after `at` on, round a list of this count: the first that is not stopped
 unfoldable pub firstRunning : ℕ → List Client → (at k left : ℕ) → Alternate
 firstRunning count list at k zero = Alternate.None
 firstRunning count list at k (suc left) =
@@ -69,7 +69,7 @@ calledFor list at inUse called = record {
   in_use = inUse;
 }
 
--- ask, in a buffer of so many octets
+-- ask, in a buffer of `room` octets
 unfoldable pub askedFor : List Client → (at inUse room version : ℕ) → Timestamp → Token → ℕ → ListCalled
 askedFor list at inUse room version clock token uptime = calledFor list at inUse (afterAsk (association list at) room version clock token uptime)
 

@@ -1,3 +1,4 @@
+pub mod InUse
 pub mod Associations
 pub mod Alternates
 pub mod Table

@@ -1,7 +1,8 @@
--- A list by value, and what a call for one of its records does: what it gives the caller, and which record it stores where.
-use Prim.Native.Nat.{ℕ}
-use mathlib.Core.List.{List, [], _∷_}
-use lib.ListN.{length}
+-- The table of a list, and what a call for one of its records does: what it gives the caller, and which record it stores where.
+use Prim.Native.Nat.{ℕ, zero, suc, _-_}
+use mathlib.Core.Bool.{Bool, false, cond, _||_}
+use mathlib.Core.List.{List, [], _∷_, map}
+use lib.ListN.{length, getD}
 use Rattle.refusals.specs.Numbers.{not-in-list, record-not-legal}
 use Rattle.ordered_tests.specs.Tests.{Tests, _if_else_, otherwise, answer}
 use Rattle.reply_checks.specs.declared.ArrivalAnswer.{ArrivalAnswer}
@@ -9,27 +10,56 @@ use Rattle.client.specs.declared.Client.{Client}
 use Rattle.client.specs.declared.CallAnswer.{CallAnswer}
 use Rattle.client.specs.declared.Called.{Called}
 use Rattle.client.specs.declared.Arrived.{Arrived}
-use Rattle.client.specs.Record.{fresh}
+use Rattle.client.specs.Record.{fresh, isStopped, illegal}
+use Rattle.association_rules.specs.declared.Standing.{Standing}
 use Rattle.association_rules.specs.declared.Table.{Table}
-use Rattle.in_use.specs.declared.Alternate.{Alternate}
+use Rattle.association_rules.specs.declared.Alternate.{Alternate}
 use Rattle.association_rules.specs.declared.CallEffect.{CallEffect}
 use Rattle.association_rules.specs.declared.ArrivalEffect.{ArrivalEffect}
-use Rattle.association_rules.specs.Associations.{anyIllegal, association}
-use Rattle.in_use.specs.InUse.{outside, useAfter}
+use Rattle.association_rules.specs.Associations.{association, round}
+use Rattle.association_rules.specs.InUse.{outside, useAfter}
+
+-- ---- the standing of a record
+
+abbrev pub standingOf : Client → Standing
+standingOf c = record { illegal = illegal c; stopped = isStopped (c .phase) }
 
 -- ---- the table of a list
 
-abbrev pub tabled : ℕ → List Client → Table
-tabled count records = record { count = count; records = records; illegal = anyIllegal records }
+unfoldable pub oneIllegal : List Standing → Bool
+oneIllegal [] = false
+oneIllegal (s ∷ rest) = s .illegal || oneIllegal rest
 
--- the first eight records, fresh ones past the end
-abbrev pub eight : List Client → List Client
+abbrev pub whichStopped : List Standing → List Bool
+whichStopped standings = map (λ s. s .stopped) standings
+
+-- past the end none is
+abbrev pub stoppedAt : List Bool → ℕ → Bool
+stoppedAt stopped i = getD stopped i false
+
+abbrev pub tabled : ℕ → Client → List Standing → Table
+tabled count called standings = record { count = count; called = called; stopped = whichStopped standings; illegal = oneIllegal standings }
+
+-- the standings of the first eight records
+abbrev pub eight : List Client → List Standing
 eight list =
-    association list 0 ∷ association list 1 ∷ association list 2 ∷ association list 3 ∷ association list 4 ∷ association list 5
-    ∷ association list 6 ∷ association list 7 ∷ []
+    standingOf (association list 0) ∷ standingOf (association list 1) ∷ standingOf (association list 2) ∷ standingOf (association list 3)
+    ∷ standingOf (association list 4) ∷ standingOf (association list 5) ∷ standingOf (association list 6) ∷ standingOf (association list 7) ∷ []
 
-abbrev pub tableOf : List Client → Table
-tableOf list = tabled (length list) (eight list)
+-- for a call for record `at`
+abbrev pub tableOf : List Client → ℕ → Table
+tableOf list at = tabled (length list) (association list at) (eight list)
+
+-- ---- the alternate
+
+-- search up to `left` records, from k places after `at` on, for the first that is not stopped
+unfoldable pub firstNotStopped : ℕ → List Bool → (at k left : ℕ) → Alternate
+firstNotStopped count stopped at k zero = Alternate.None
+firstNotStopped count stopped at k (suc left) =
+    cond (stoppedAt stopped (round count at k)) (firstNotStopped count stopped at (suc k) left) (Alternate.Record (round count at k))
+
+abbrev pub alternateIn : Table → ℕ → Alternate
+alternateIn t at = firstNotStopped (t .count) (t .stopped) at 1 (t .count - 1)
 
 -- ---- the calls
 

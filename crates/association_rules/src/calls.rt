@@ -5,9 +5,8 @@ ghost use Rattle.ordered_tests.specs.Tests.{kept, pass};
 ghost use Rattle.client.specs.Ask.{afterAsk, afterAskBuffer};
 ghost use Rattle.client.specs.Arrival.{arrived};
 ghost use Rattle.client.specs.GiveUp.{gaveUp};
-ghost use Rattle.association_rules.specs.Associations.{association, alternateOf};
-ghost use Rattle.in_use.specs.InUse.{exists};
-ghost use Rattle.association_rules.specs.Table.{tableTests, notCalled, callEffect, notArrived, arrivalEffect};
+ghost use Rattle.association_rules.specs.InUse.{exists};
+ghost use Rattle.association_rules.specs.Table.{alternateIn, tableTests, notCalled, callEffect, notArrived, arrivalEffect};
 use crate::ArrivalEffect;
 use crate::CallEffect;
 use crate::ListArrived;
@@ -57,14 +56,14 @@ impl Table {
         token: Token,
         uptime: u64,
     ) -> CallEffect
-        ensures effect { λ r. ⌜ r ≡ callEffect self at in_use (afterAsk (association (self .records) at) (length (now (buffer .entry))) version clock token uptime) ⌝ }
-        ensures buffer { λ _. ⌜ now (buffer .exit) ≡ kept (tableTests self at in_use pass) (now (buffer .entry)) (afterAskBuffer (association (self .records) at) (now (buffer .entry)) version clock token uptime) ⌝ }
+        ensures effect { λ r. ⌜ r ≡ callEffect self at in_use (afterAsk (self .called) (length (now (buffer .entry))) version clock token uptime) ⌝ }
+        ensures buffer { λ _. ⌜ now (buffer .exit) ≡ kept (tableTests self at in_use pass) (now (buffer .entry)) (afterAskBuffer (self .called) (now (buffer .entry)) version clock token uptime) ⌝ }
     {
         let n = self.first_refusal(at, in_use);
         if n != 0 {
             return self.not_called(in_use, n);
         }
-        let c = self.record(at);
+        let c = self.called;
         let called = c.ask(buffer, version, clock, token, uptime);
         let answer = called.answer;
         let client = called.client;
@@ -76,13 +75,13 @@ impl Table {
     }
 
     pub fn give_up(self, at: usize, in_use: usize, uptime: u64) -> CallEffect
-        ensures { λ r. ⌜ r ≡ callEffect self at in_use (gaveUp (association (self .records) at) uptime) ⌝ }
+        ensures { λ r. ⌜ r ≡ callEffect self at in_use (gaveUp (self .called) uptime) ⌝ }
     {
         let n = self.first_refusal(at, in_use);
         if n != 0 {
             return self.not_called(in_use, n);
         }
-        let c = self.record(at);
+        let c = self.called;
         let called = c.give_up(uptime);
         let answer = called.answer;
         let client = called.client;
@@ -94,14 +93,14 @@ impl Table {
     }
 
     pub fn arrival(self, at: usize, in_use: usize, packet: &[u8], t4: Timestamp) -> ArrivalEffect
-        ensures { λ r. ⌜ r ≡ arrivalEffect self at in_use (alternateOf (self .count) (self .records) at) (arrived (association (self .records) at) (now (packet .entry)) t4 (exists (alternateOf (self .count) (self .records) at))) ⌝ }
+        ensures { λ r. ⌜ r ≡ arrivalEffect self at in_use (alternateIn self at) (arrived (self .called) (now (packet .entry)) t4 (exists (alternateIn self at))) ⌝ }
     {
         let n = self.first_refusal(at, in_use);
         if n != 0 {
             return self.not_arrived(in_use, n);
         }
         let alternate = self.alternate(at);
-        let c = self.record(at);
+        let c = self.called;
         let arrived = c.arrival(packet, t4, alternate.exists());
         let answer = arrived.answer;
         let client = arrived.client;

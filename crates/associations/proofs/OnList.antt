@@ -1,7 +1,7 @@
 -- The two calls that a function over a lent list makes, as steps of its walk. Before and after each the token of list's lifetime stands first in the context, and
 -- what list owns second.
---     loads        `load(list)`, the list lent as `&` for the call: the result is `tableOf` of it
---     stores       `store(list, i, c)`, the list not used again: what says its last value, `set` of it, takes the list's place
+--     loads        `load(list, i)`, the list lent as `&` for the call: the result is `tableOf` the list at i
+--     stores       `store(list, i, c)`, the list not used again: what says its last value, the list with c at i, takes its place
 -- Assumes `Given`, and the two functions' theorems at their keys.
 use mathlib.Core.Path.{_≡_, refl, subst}
 use Prim.Native.Nat.{ℕ, _<_, _^_}
@@ -64,17 +64,19 @@ module _ {M : Type 1} (𝓤 : URA M) (H : Heap 𝓤) (A : Atoms 𝓤) (W : Given
   abbrev pub Lent : ℕ → Fml
   Lent ν = LentShared R κ (ν ∷ []) q γ b o ys
 
-  abbrev pub to-load : ℕ → GName → Load 𝓤 H A mem run .Ghost
-  to-load ν δ = (((ν ∷ [], tt), (fullShare, tt), tt, (x δ, tt), (s ∷ [], tt)), tt)
+  abbrev pub to-load : ℕ → ℕ → GName → Load 𝓤 H A mem run .Ghost
+  to-load i ν δ = (((ν ∷ [], tt), (fullShare, tt), tt, (x δ, (i, tt)), (s ∷ [], (vint w64 i ∷ [], tt))), tt)
 
-  goes-load : (ν : ℕ) (δ : GName)
-      → ent 𝓤 (⋆ 𝓤 H A (‵ (flft (ν ∷ []) fullShare) ∷ ‵ (ShrSlice (named 0) (ν ∷ []) R .own (x δ) (s ∷ [])) ∷ [])) (Load 𝓤 H A mem run .pre (to-load ν δ))
-  goes-load ν δ =
-      qed W (‵ (flft (ν ∷ []) fullShare) ∷ ‵ (ShrSlice (named 0) (ν ∷ []) R .own (x δ) (s ∷ [])) ∷ []) ∵ nothing ! $ move ! (2 ∷ 0 ∷ []) $ fjoin ! $ nothing ! $
+  goes-load : (i : ℕ) → i < 2 ^ 64 → (ν : ℕ) (δ : GName)
+      → ent 𝓤 (⋆ 𝓤 H A (‵ (flft (ν ∷ []) fullShare) ∷ ‵ (ShrSlice (named 0) (ν ∷ []) R .own (x δ) (s ∷ [])) ∷ [])) (Load 𝓤 H A mem run .pre (to-load i ν δ))
+  goes-load i i-fits ν δ =
+      qed W (‵ (flft (ν ∷ []) fullShare) ∷ ‵ (ShrSlice (named 0) (ν ∷ []) R .own (x δ) (s ∷ [])) ∷ []) ∵ nothing ! $
+      owned ! usize (Is usize) (uint-makes 𝓤 H A W w64) i _ (refl, i-fits) $ fjoin ! $ move ! (2 ∷ 0 ∷ []) $ fjoin ! $ nothing ! $
       move ! (2 ∷ 0 ∷ []) $ join ! $ join ! $ frame ! $ done !
 
-  load-said : (ν : ℕ) (δ : GName) (t : Table) → ent 𝓤 (ensured 𝓤 H A load.ended (load.clauses 𝓤 H A mem run) (ν ∷ [], tt) (x δ, tt) tt t) (fact 𝓤 (t ≡ tableOf ys))
-  load-said ν δ t = exE 𝓤 _ (λ ws. snd∗ 𝓤 (sem 𝓤 H A (lasts load.ended (ν ∷ [], tt) (x δ, tt) ws)) (fact 𝓤 (t ≡ tableOf ys)))
+  load-said : (i ν : ℕ) (δ : GName) (t : Table)
+      → ent 𝓤 (ensured 𝓤 H A load.ended (load.clauses 𝓤 H A mem run) (ν ∷ [], tt) (x δ, (i, tt)) tt t) (fact 𝓤 (t ≡ tableOf ys i))
+  load-said i ν δ t = exE 𝓤 _ (λ ws. snd∗ 𝓤 (sem 𝓤 H A (lasts load.ended (ν ∷ [], tt) (x δ, (i, tt)) ws)) (fact 𝓤 (t ≡ tableOf ys i)))
 
   abbrev pub to-store : ℕ → Client → Val → Store 𝓤 H A mem run .Ghost
   to-store i c v = (((κ, tt), (q, tt), tt, (x γ, (i, (c, tt))), (s ∷ [], (vint w64 i ∷ [], (v ∷ [], tt)))), tt)
@@ -87,19 +89,19 @@ module _ {M : Type 1} (𝓤 : URA M) (H : Heap 𝓤) (A : Atoms 𝓤) (W : Given
       move ! (2 ∷ 0 ∷ []) $ fjoin ! $ nothing ! $ move ! (2 ∷ 0 ∷ []) $ join ! $ join ! $ frame ! $ done !
 
   module _ (C : Calls 𝓤 H) (Λ : Loops 𝓤 H) (fm : FmC 𝓤 H (W .laws) C) {Γ : List (Item 𝓤)} {E : Env 𝓤 H} {xs : List Operand} {d : Place} {rest : Body} {p : Post 𝓤 H} where
-    pub loads : Triple 𝓤 (C #load) (Load 𝓤 H A mem run)
-        → ((ν : ℕ) (δ : GName) → Opds (Go {0}) W (raw (Load 𝓤 H A mem run .pre (to-load ν δ)) ∷ ‵ (Lent ν) ∷ Γ) E xs (s ∷ []))
-        → ((w : Val) → Is B.the-row (tableOf ys) (w ∷ []) → Sq W (‵ (flft κ q) ∷ ‵ Own ∷ Γ) (lands C Λ E d w rest p))
+    pub loads : Triple 𝓤 (C #load) (Load 𝓤 H A mem run) → (i : ℕ) → i < 2 ^ 64
+        → ((ν : ℕ) (δ : GName) → Opds (Go {0}) W (raw (Load 𝓤 H A mem run .pre (to-load i ν δ)) ∷ ‵ (Lent ν) ∷ Γ) E xs (s ∷ vint w64 i ∷ []))
+        → ((w : Val) → Is B.the-row (tableOf ys i) (w ∷ []) → Sq W (‵ (flft κ q) ∷ ‵ Own ∷ Γ) (lands C Λ E d w rest p))
         → Sq W (‵ (flft κ q) ∷ ‵ Own ∷ Γ) (runs C Λ E (seq (call #load xs d) rest) p)
-    loads known os go =
+    loads known i i-fits os go =
         lft-new ! tt (λ ν. move ! (2 ∷ 1 ∷ []) $
         use2 W (later (some (λ (δ : GName). ‵ (ShrSlice (named 0) (ν ∷ []) R .own (x δ) (s ∷ [])) ⊛ ‵ (Lent ν)))) (shares-out R κ (ν ∷ []) q γ b o ys 𝓤 H A W (named 0) (named 0)) $
         await ! tt $ pick ! (λ δ. split ! $
-        move ! (2 ∷ 0 ∷ []) $ use2 W (raw (Load 𝓤 H A mem run .pre (to-load ν δ))) (goes-load ν δ) $
-        calls-at ! fm (Load 𝓤 H A mem run) known (to-load ν δ) (os ν δ) (λ w.
-        use1 W (later (some (λ (t : Table). ((‵ (flft (ν ∷ []) fullShare) ⊛ ‵ ftrue) ⊛ ‵ (B.the-row .own t (w ∷ []))) ⊛ raw (ensured 𝓤 H A load.ended (load.clauses 𝓤 H A mem run) (ν ∷ [], tt) (x δ, tt) tt t)))) (id⊢ 𝓤 _) $
+        move ! (2 ∷ 0 ∷ []) $ use2 W (raw (Load 𝓤 H A mem run .pre (to-load i ν δ))) (goes-load i i-fits ν δ) $
+        calls-at ! fm (Load 𝓤 H A mem run) known (to-load i ν δ) (os ν δ) (λ w.
+        use1 W (later (some (λ (t : Table). ((‵ (flft (ν ∷ []) fullShare) ⊛ ‵ ftrue) ⊛ ‵ (B.the-row .own t (w ∷ []))) ⊛ raw (ensured 𝓤 H A load.ended (load.clauses 𝓤 H A mem run) (ν ∷ [], tt) (x δ, (i, tt)) tt t)))) (id⊢ 𝓤 _) $
         await ! tt $ pick ! (λ t.
-        split ! $ move ! (1 ∷ []) $ use1 W (raw (fact 𝓤 (t ≡ tableOf ys))) (load-said ν δ t) $ heard ! (t ≡ tableOf ys) (λ e.
+        split ! $ move ! (1 ∷ []) $ use1 W (raw (fact 𝓤 (t ≡ tableOf ys i))) (load-said i ν δ t) $ heard ! (t ≡ tableOf ys i) (λ e.
         split ! $ move ! (1 ∷ []) $ peeks ! B.the-row (Is B.the-row) (shows 𝓤 H A B.the-row) t (w ∷ []) (λ is. drop ! $ split ! $ move ! (1 ∷ []) $ drop ! $
         -- [the call's token; what was kept; …]: the lifetime is ended, and the list comes back
         lft-end ! tt $ use2 W (later (‵ Own ⊛ ‵ (flft κ q))) (shared-back R κ (ν ∷ []) q γ b o ys 𝓤 H A W (named 0) (named 0) room) $ await ! tt $ split ! $

@@ -2,10 +2,11 @@
 // call reads the list into a table, lets the table decide, and stores the one record that changes.
 ghost use mathlib.Core.Path.{_≡_};
 ghost use lib.ListN.{length, getD, set};
-ghost use Rattle.association_rules.specs.Associations.{askedFor, listAfterAsk, bufferAfterAsk, arrivedFor, listAfterArrival, gaveUpFor, listAfterGiveUp};
-ghost use Rattle.association_rules.specs.Table.{tableOf};
+ghost use Rattle.association_rules.specs.Associations.{association, askedFor, listAfterAsk, bufferAfterAsk, arrivedFor, listAfterArrival, gaveUpFor, listAfterGiveUp};
+ghost use Rattle.association_rules.specs.Table.{standingOf, tableOf};
 use association_rules::ListArrived;
 use association_rules::ListCalled;
+use association_rules::Standing;
 use association_rules::Table;
 use client::Client;
 use timestamp::Timestamp;
@@ -30,20 +31,27 @@ fn store(list: &mut [Client], at: usize, client: Client)
     }
 }
 
-fn load(list: &[Client]) -> Table
-    ensures { λ r. ⌜ r ≡ tableOf (now (list .entry)) ⌝ }
+fn standing_at(list: &[Client], at: usize) -> Standing
+    ensures { λ r. ⌜ r ≡ standingOf (association (now (list .entry)) at) ⌝ }
 {
-    let fresh = Client::fresh();
+    Standing::of(read(list, at, Client::fresh()))
+}
+
+// The table for a call for one record.
+fn load(list: &[Client], at: usize) -> Table
+    ensures { λ r. ⌜ r ≡ tableOf (now (list .entry)) at ⌝ }
+{
     Table::new(
         list.len(),
-        read(list, 0, fresh),
-        read(list, 1, fresh),
-        read(list, 2, fresh),
-        read(list, 3, fresh),
-        read(list, 4, fresh),
-        read(list, 5, fresh),
-        read(list, 6, fresh),
-        read(list, 7, fresh),
+        read(list, at, Client::fresh()),
+        standing_at(list, 0),
+        standing_at(list, 1),
+        standing_at(list, 2),
+        standing_at(list, 3),
+        standing_at(list, 4),
+        standing_at(list, 5),
+        standing_at(list, 6),
+        standing_at(list, 7),
     )
 }
 
@@ -60,7 +68,7 @@ pub fn ask(
 ) -> ListCalled
     ensures { λ r. ⌜ (r ≡ askedFor (now (list .entry)) at in_use (length (now (buffer .entry))) version clock token uptime) × (now (list .exit) ≡ listAfterAsk (now (list .entry)) at in_use (length (now (buffer .entry))) version clock token uptime) × (now (buffer .exit) ≡ bufferAfterAsk (now (list .entry)) at in_use (now (buffer .entry)) version clock token uptime) ⌝ }
 {
-    let effect = load(list).ask(at, in_use, buffer, version, clock, token, uptime);
+    let effect = load(list, at).ask(at, in_use, buffer, version, clock, token, uptime);
     store(list, effect.at, effect.client);
     effect.result
 }
@@ -75,7 +83,7 @@ pub fn arrival(
 ) -> ListArrived
     ensures { λ r. ⌜ (r ≡ arrivedFor (now (list .entry)) at in_use (now (packet .entry)) t4) × (now (list .exit) ≡ listAfterArrival (now (list .entry)) at in_use (now (packet .entry)) t4) ⌝ }
 {
-    let effect = load(list).arrival(at, in_use, packet, t4);
+    let effect = load(list, at).arrival(at, in_use, packet, t4);
     store(list, effect.at, effect.client);
     effect.result
 }
@@ -84,7 +92,7 @@ pub fn arrival(
 pub fn give_up(list: &mut [Client], at: usize, in_use: usize, uptime: u64) -> ListCalled
     ensures { λ r. ⌜ (r ≡ gaveUpFor (now (list .entry)) at in_use uptime) × (now (list .exit) ≡ listAfterGiveUp (now (list .entry)) at in_use uptime) ⌝ }
 {
-    let effect = load(list).give_up(at, in_use, uptime);
+    let effect = load(list, at).give_up(at, in_use, uptime);
     store(list, effect.at, effect.client);
     effect.result
 }

@@ -1,18 +1,20 @@
 -- Images one after another: the tests of each in turn, and an image in its place.
-use mathlib.Core.Path.{_≡_, refl, sym, ap, _∙_}
-use mathlib.Core.Bool.{Bool, true, false}
+use mathlib.Core.Path.{_≡_, refl, sym, ap, subst, _∙_}
+use mathlib.Core.Bool.{Bool, true, false, _&&_}
 use mathlib.Core.List.{List, _++_, append-assoc}
-use Prim.Native.Nat.{ℕ, suc, _+_, _-_, _*_, _<_}
+use Prim.Native.Nat.{ℕ, suc, _+_, _-_, _*_, _%_, _≤_, _<_}
 use native.Mathlib.Omega.{arith}
-use borrow.Author.Tests.{lt-ltb}
+use borrow.Author.Tests.{lt-ltb, eq-eqb, ne-eqb, eqb-true, eqb-false}
 use borrow.Rule.Slice.PartMut.{putMid}
-use lib.ListN.{length, take, drop, length-drop}
-use lib.Seq.{drop-drop, length-take-le}
+use lib.Dec.{T, eqb}
+use lib.ListN.{length, getD, set, take, drop, length-drop}
+use lib.Seq.{drop-drop, length-take-le, getD-set-same, getD-set-other}
 use Rattle.arithmetic.specs.Octets.{part}
 use Rattle.client.specs.declared.Client.{Client}
-use Rattle.firmware_layouts.specs.Image.{isImage, imageOf, withImage}
+use Rattle.client.specs.Record.{fresh}
+use Rattle.firmware_layouts.specs.Image.{isImage, recordIn, imageOf, withImage}
 use Rattle.firmware_layouts.proofs.Laws.{with-image}
-use Rattle.firmware_list.specs.Images.{count, areImages, withRecord}
+use Rattle.firmware_list.specs.Images.{count, areImages, isList, HoldsFirst, withRecord}
 
 -- a part is cut by its two ends
 pub span : (at : ℕ) → 32 * at + 32 - 32 * at ≡ 32
@@ -39,6 +41,42 @@ module _ (list : List ℕ) (n i : ℕ) (more : i < n) where
 pub none-left : (list : List ℕ) (n i : ℕ) → n - i ≡ 0 → areImages (n - i) (drop (32 * i) list) ≡ true
 unfolding areImages
 none-left list n i e = rw e
+
+-- ---- whether it is a list
+
+pub not-whole : (list : List ℕ) → (length list % 32 ≡ 0 → ⊥) → isList list ≡ false
+unfolding isList
+not-whole list h = rw (ne-eqb (length list % 32) 0 h)
+
+pub whole-is : (list : List ℕ) (b : Bool) → length list % 32 ≡ 0 → areImages (count list) list ≡ b → isList list ≡ b
+unfolding isList
+whole-is list b h e = rw (eq-eqb (length list % 32) 0 h) e
+
+pub and-false : (b : Bool) → b && false ≡ false
+and-false true = refl
+and-false false = refl
+
+pub not-both : {P : Type 0} {b : Bool} → b ≡ false → b ≡ true → P
+not-both is-false is-true = absurd (subst T (sym is-true ∙ is-false) tt)
+
+-- ---- the first eight records in their places
+
+module _ (records : List Client) (list : List ℕ) (i : ℕ) (before : HoldsFirst records i list) where
+  -- the next one is stored
+  pub placed : i < length records → HoldsFirst (set records i (recordIn (part (32 * i) 32 list))) (suc i) list
+  placed inside k h few = go (eqb k i) refl
+    where
+      go : (b : Bool) → eqb k i ≡ b → getD (set records i (recordIn (part (32 * i) 32 list))) k fresh ≡ recordIn (part (32 * k) 32 list)
+      go true e =
+          let same = eqb-true k i e in
+          rw same (getD-set-same records i (recordIn (part (32 * i) 32 list)) fresh inside)
+      go false e =
+          let other = eqb-false k i e in
+          getD-set-other records i k (recordIn (part (32 * i) 32 list)) fresh other ∙ before k (omega (arith, other)) few
+
+  -- past the eighth none is
+  pub passed : 8 ≤ i → HoldsFirst records (suc i) list
+  passed past k h few = before k (omega arith) few
 
 -- ---- an image in its place
 

@@ -1,15 +1,14 @@
 -- A list of servers for C: images of 32 octets one after another (docs/C.md, "Layouts").
-use Prim.Native.Nat.{ℕ, zero, suc, _+_, _*_, _/_, _%_}
+use Prim.Native.Nat.{ℕ, zero, suc, _+_, _*_, _/_, _%_, _<_}
+use mathlib.Core.Path.{_≡_}
 use mathlib.Core.Bool.{Bool, true, cond, _&&_}
 use mathlib.Core.List.{List, [], _∷_, _++_}
 use lib.Dec.{eqb, ltb}
-use lib.ListN.{length, take, drop}
+use lib.ListN.{length, getD, take, drop}
 use Rattle.arithmetic.specs.Octets.{part}
 use Rattle.client.specs.declared.Client.{Client}
 use Rattle.client.specs.Record.{fresh}
 use Rattle.client.specs.Calls.{Result, refused, done, accepted, kiss}
-use Rattle.association_rules.specs.declared.Table.{Table}
-use Rattle.association_rules.specs.Table.{tabled}
 use Rattle.firmware_layouts.specs.Image.{isImage, recordIn, imageOf}
 
 -- how many images there are
@@ -40,17 +39,9 @@ imagesOf (c ∷ rest) = imageOf c ++ imagesOf rest
 
 -- ---- what the code's steps come to
 
--- the record of an image, and that of a number
-abbrev pub recordOrFresh : List ℕ → Client
-recordOrFresh image = cond (isImage image) (recordIn image) fresh
-
-unfoldable pub recordAt : List ℕ → ℕ → Client
-recordAt list at = cond (ltb at (count list)) (recordOrFresh (part (32 * at) 32 list)) fresh
-
-abbrev pub tableIn : List ℕ → Table
-tableIn list =
-    tabled (count list)
-    (recordAt list 0 ∷ recordAt list 1 ∷ recordAt list 2 ∷ recordAt list 3 ∷ recordAt list 4 ∷ recordAt list 5 ∷ recordAt list 6 ∷ recordAt list 7 ∷ [])
+-- the first eight of the first n records, each in its place
+abbrev pub HoldsFirst : List Client → ℕ → List ℕ → Type 0
+HoldsFirst records n list = (k : ℕ) → k < n → k < 8 → getD records k fresh ≡ recordIn (part (32 * k) 32 list)
 
 -- the list with this record's image in the place of a number; past its end nothing is stored
 unfoldable pub withRecord : List ℕ → ℕ → Client → List ℕ

@@ -1,15 +1,15 @@
-// The calls for one record of a list. Every call refuses by 46 before anything else; of a refusal the number is all, and no lent octet changes.
+// The calls for one record of a list. Every call refuses by 46 before anything else. A refused call returns its number and writes nothing.
 ghost use mathlib.Core.Path.{_≡_};
 ghost use Rattle.client.specs.Calls.{saidCall, saidArrival};
 ghost use Rattle.firmware_layouts.specs.Answer.{withAnswer};
 ghost use Rattle.firmware.specs.Numbers.{numberOf};
 ghost use Rattle.firmware_list.specs.Images.{nextOctets};
 ghost use Rattle.firmware_list.specs.Calls.{ask, arrival, giveUp, number, listAfter, inUseAfter, bufferAfter, answerAfter};
-use crate::images::is_list;
+use crate::images::count_of;
 use crate::images::load;
 use crate::images::store;
-use association_rules::ArrivalEffect;
-use association_rules::CallEffect;
+use associations_by_value::ArrivedByValue;
+use associations_by_value::CalledByValue;
 use client::CallAnswer;
 use firmware::numbers::narrow;
 use firmware_layouts::ANSWER;
@@ -22,28 +22,30 @@ use token::Token;
 const IMAGE_NOT_LEGAL: u32 = refusals::IMAGE_NOT_LEGAL as u32;
 
 // The end of an ask or a give-up.
-fn end_call(list: &mut [u8], effect: CallEffect) -> u32
-    ensures number { λ r. ⌜ r ≡ numberOf (saidCall (effect .result .answer)) ⌝ }
-    ensures list { λ _. ⌜ now (list .exit) ≡ nextOctets (now (list .entry)) (saidCall (effect .result .answer)) (effect .at) (effect .client) ⌝ }
+fn end_call(list: &mut [u8], at: usize, called: CalledByValue) -> u32
+    ensures number { λ r. ⌜ r ≡ numberOf (saidCall (called .result .answer)) ⌝ }
+    ensures list { λ _. ⌜ now (list .exit) ≡ nextOctets (now (list .entry)) (saidCall (called .result .answer)) at (called .client) ⌝ }
 {
-    let result = effect.result;
+    let result = called.result;
+    let client = called.client;
     let answer = result.answer;
     match answer {
         CallAnswer::Refused(number) => number as u32,
         CallAnswer::Done => {
-            store(list, effect.at, effect.client);
+            store(list, at, client);
             0
         }
     }
 }
 
 // The end of an arrival.
-fn end_arrival(list: &mut [u8], answer: &mut [u8], effect: ArrivalEffect) -> u32
-    ensures number { λ r. ⌜ r ≡ numberOf (saidArrival (effect .result .answer)) ⌝ }
-    ensures list { λ _. ⌜ now (list .exit) ≡ nextOctets (now (list .entry)) (saidArrival (effect .result .answer)) (effect .at) (effect .client) ⌝ }
-    ensures answer { λ _. ⌜ now (answer .exit) ≡ withAnswer (now (answer .entry)) (saidArrival (effect .result .answer)) ⌝ }
+fn end_arrival(list: &mut [u8], at: usize, answer: &mut [u8], arrived: ArrivedByValue) -> u32
+    ensures number { λ r. ⌜ r ≡ numberOf (saidArrival (arrived .result .answer)) ⌝ }
+    ensures list { λ _. ⌜ now (list .exit) ≡ nextOctets (now (list .entry)) (saidArrival (arrived .result .answer)) at (arrived .client) ⌝ }
+    ensures answer { λ _. ⌜ now (answer .exit) ≡ withAnswer (now (answer .entry)) (saidArrival (arrived .result .answer)) ⌝ }
 {
-    let result = effect.result;
+    let result = arrived.result;
+    let client = arrived.client;
     let told = result.answer;
     match told {
         ArrivalAnswer::Refused(number) => number as u32,
@@ -53,12 +55,12 @@ fn end_arrival(list: &mut [u8], answer: &mut [u8], effect: ArrivalEffect) -> u32
             delay,
         } => {
             write_accepted(answer, offset, half, delay);
-            store(list, effect.at, effect.client);
+            store(list, at, client);
             0
         }
         ArrivalAnswer::Kiss { code, row } => {
             write_kiss(answer, code, row);
-            store(list, effect.at, effect.client);
+            store(list, at, client);
             0
         }
     }
@@ -80,11 +82,11 @@ pub extern "C" fn pongulvesz_list_ask(
     ensures list { λ _. ⌜ now (list .exit) ≡ listAfter (now (list .entry)) at in_use (ask (now (buffer .entry)) version clock token uptime) ⌝ }
     ensures buffer { λ _. ⌜ now (buffer .exit) ≡ bufferAfter (now (list .entry)) at in_use (ask (now (buffer .entry)) version clock token uptime) ⌝ }
 {
-    if !is_list(list) {
-        return IMAGE_NOT_LEGAL;
-    }
-    let table = load(list);
-    let effect = table.ask(
+    let mut legal = false;
+    let records = load(list, &mut legal);
+    let called = associations_by_value::ask(
+        records,
+        count_of(list, legal),
         at,
         in_use,
         buffer,
@@ -93,7 +95,10 @@ pub extern "C" fn pongulvesz_list_ask(
         Token(token),
         uptime,
     );
-    end_call(list, effect)
+    if !legal {
+        return IMAGE_NOT_LEGAL;
+    }
+    end_call(list, at, called)
 }
 
 // `associations::arrival`: the client's checks of a server reply (RFC 4330, section 5). The list tells whether an alternate server exists.
@@ -111,18 +116,26 @@ pub extern "C" fn pongulvesz_list_arrival(
     ensures in_use { λ _. ⌜ now (in_use .exit) ≡ inUseAfter (now (list .entry)) at (now (in_use .entry)) (arrival (now (answer .entry)) t4 (now (packet .entry))) ⌝ }
     ensures answer { λ _. ⌜ now (answer .exit) ≡ answerAfter (now (list .entry)) at (now (in_use .entry)) (arrival (now (answer .entry)) t4 (now (packet .entry))) ⌝ }
 {
-    if !is_list(list) {
-        return IMAGE_NOT_LEGAL;
-    }
     if answer.len() != ANSWER {
         return IMAGE_NOT_LEGAL;
     }
-    let table = load(list);
-    let effect = table.arrival(at, *in_use, packet, Timestamp::from_units(t4));
+    let mut legal = false;
+    let records = load(list, &mut legal);
+    let arrived = associations_by_value::arrival(
+        records,
+        count_of(list, legal),
+        at,
+        *in_use,
+        packet,
+        Timestamp::from_units(t4),
+    );
+    if !legal {
+        return IMAGE_NOT_LEGAL;
+    }
     // a refusal hands the number in use back as it was
-    let result = effect.result;
+    let result = arrived.result;
     *in_use = result.in_use;
-    end_arrival(list, answer, effect)
+    end_arrival(list, at, answer, arrived)
 }
 
 // `associations::give_up`: the request to one of the servers has timed out (RFC 4330, section 10).
@@ -136,10 +149,11 @@ pub extern "C" fn pongulvesz_list_give_up(
     ensures number { λ r. ⌜ r ≡ number (now (list .entry)) at in_use (giveUp uptime) ⌝ }
     ensures list { λ _. ⌜ now (list .exit) ≡ listAfter (now (list .entry)) at in_use (giveUp uptime) ⌝ }
 {
-    if !is_list(list) {
+    let mut legal = false;
+    let records = load(list, &mut legal);
+    let called = associations_by_value::give_up(records, count_of(list, legal), at, in_use, uptime);
+    if !legal {
         return IMAGE_NOT_LEGAL;
     }
-    let table = load(list);
-    let effect = table.give_up(at, in_use, uptime);
-    end_call(list, effect)
+    end_call(list, at, called)
 }

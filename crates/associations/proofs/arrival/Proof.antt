@@ -44,9 +44,9 @@ use Rattle.client.specs.declared.Client.{Client}
 use Rattle.client.specs.Arrival.{arrived}
 use Rattle.association_rules.specs.declared.Table.{Table}
 use Rattle.association_rules.specs.declared.ArrivalEffect.{ArrivalEffect}
-use Rattle.association_rules.specs.Associations.{association, alternateOf, arrivedFor, listAfterArrival}
-use Rattle.in_use.specs.InUse.{exists}
-use Rattle.association_rules.specs.Table.{eight, tableOf, arrivalEffect}
+use Rattle.association_rules.specs.Associations.{association, arrivedFor, listAfterArrival}
+use Rattle.association_rules.specs.InUse.{exists}
+use Rattle.association_rules.specs.Table.{tableOf, alternateIn, arrivalEffect}
 use Rattle.association_rules.proofs.AsList.{arrival-as-list}
 use Rattle.association_rules.proofs.Table as B
 use Rattle.association_rules.proofs.Table.Laws as B′
@@ -106,7 +106,7 @@ module _ {M : Type 1} (𝓤 : URA M) (H : Heap 𝓤) (A : Atoms 𝓤) (W : Given
 
   -- what the table decides
   abbrev n : ArrivalEffect
-  n = let e = alternateOf (length ys) (eight ys) i in arrivalEffect (tableOf ys) i used e (arrived (association (eight ys) i) (x′ .now) t4 (exists e))
+  n = let e = alternateIn (tableOf ys i) i in arrivalEffect (tableOf ys i) i used e (arrived (association ys i) (x′ .now) t4 (exists e))
 
   -- the machine value that is returned
   abbrev result : Val
@@ -147,19 +147,19 @@ module _ {M : Type 1} (𝓤 : URA M) (H : Heap 𝓤) (A : Atoms 𝓤) (W : Given
   Given-to = Table × (ℕ × (ℕ × (RefT (List ℕ) × (Timestamp × Unit {0}))))
 
   abbrev given : Given-to
-  given = (tableOf ys, (i, (used, (x′, (t4, tt)))))
+  given = (tableOf ys i, (i, (used, (x′, (t4, tt)))))
 
   abbrev to-decide : Val → Decide 𝓤 H A mem run .Ghost
   to-decide v = (((κ′, tt), (q′, tt), tt, given, (v ∷ [], (vint w64 i ∷ [], (vint w64 used ∷ [], (s′ ∷ [], (time ∷ [], tt)))))), tt)
 
-  goes-decide : (v : Val) → Is B.the-row (tableOf ys) (v ∷ []) → ent 𝓤 (⋆ 𝓤 H A (‵ (flft κ′ q′) ∷ ‵ Packet ∷ [])) (Decide 𝓤 H A mem run .pre (to-decide v))
+  goes-decide : (v : Val) → Is B.the-row (tableOf ys i) (v ∷ []) → ent 𝓤 (⋆ 𝓤 H A (‵ (flft κ′ q′) ∷ ‵ Packet ∷ [])) (Decide 𝓤 H A mem run .pre (to-decide v))
   goes-decide v is =
       qed W (‵ (flft κ′ q′) ∷ ‵ Packet ∷ []) ∵ nothing ! $
       owned ! S.the-row (Is S.the-row) (LL.makes S.the-type S′.the-plain 𝓤 H A) t4 _ t4-is $ fjoin ! $
       move ! (2 ∷ 0 ∷ []) $ fjoin ! $
       owned ! usize (Is usize) (uint-makes 𝓤 H A W w64) used _ (refl, used-fits) $ fjoin ! $
       owned ! usize (Is usize) (uint-makes 𝓤 H A W w64) i _ (refl, i-fits) $ fjoin ! $
-      owned ! B.the-row (Is B.the-row) (LL.makes B.the-type B′.the-plain 𝓤 H A) (tableOf ys) _ is $ fjoin ! $
+      owned ! B.the-row (Is B.the-row) (LL.makes B.the-type B′.the-plain 𝓤 H A) (tableOf ys i) _ is $ fjoin ! $
       nothing ! $ move ! (2 ∷ 0 ∷ []) $ join ! $ join ! $ frame ! $ done !
 
   decide-said : (m : ArrivalEffect) → ent 𝓤 (ensured 𝓤 H A decide.ended (decide.clauses 𝓤 H A mem run) (κ′, tt) given tt m) (fact 𝓤 (m ≡ n))
@@ -186,8 +186,8 @@ module _ {M : Type 1} (𝓤 : URA M) (H : Heap 𝓤) (A : Atoms 𝓤) (W : Given
         -- `load`
         sets ! (slot 8) (behind ! (slot 1) refl refl refl refl) refl (tt, tt) $
         sets ! (slot 9) (agg ! (local ! (slot 8) refl ▸ field-of ! (slot 1) 1 refl refl refl ▸ no-more !)) refl (tt, (tt, (record { fits = room .0 }, tt))) $
-        loads 𝓤 H A W mem run κ q b o γ ys room C Λ fm known-load (λ ν δ. local ! (slot 9) refl ▸ no-more !) (λ v t-is.
-        lands-in ! (slot 7) refl (LL.lawful B.the-type B′.the-laws 𝓤 H A W .typed (tableOf ys) _ t-is .0) $
+        loads 𝓤 H A W mem run κ q b o γ ys room C Λ fm known-load i i-fits (λ ν δ. local ! (slot 9) refl ▸ local ! (slot 2) refl ▸ no-more !) (λ v t-is.
+        lands-in ! (slot 7) refl (LL.lawful B.the-type B′.the-laws 𝓤 H A W .typed (tableOf ys i) _ t-is .0) $
         -- the table's `arrival`: packet is Copy, and one copy of what it owns is kept
         move ! (3 ∷ []) $ use1 W (‵ Packet ⊛ ‵ Packet) (shr-slice-copy 𝓤 H A W (named 1) κ′ u8 .twice x′ (s′ ∷ [])) $ split ! $
         move ! (4 ∷ 0 ∷ []) $ use2 W (raw (Decide 𝓤 H A mem run .pre (to-decide v))) (goes-decide v t-is) $

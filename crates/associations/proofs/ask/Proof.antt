@@ -49,7 +49,7 @@ use Rattle.client.specs.Ask.{afterAsk, afterAskBuffer}
 use Rattle.association_rules.specs.declared.Table.{Table}
 use Rattle.association_rules.specs.declared.CallEffect.{CallEffect}
 use Rattle.association_rules.specs.Associations.{association, askedFor, listAfterAsk, bufferAfterAsk}
-use Rattle.association_rules.specs.Table.{eight, tableOf, tableTests, callEffect}
+use Rattle.association_rules.specs.Table.{tableOf, tableTests, callEffect}
 use Rattle.association_rules.proofs.AsList.{call-as-list, buffer-as-list}
 use Rattle.association_rules.proofs.Table as B
 use Rattle.association_rules.proofs.Table.Laws as B′
@@ -112,10 +112,10 @@ module _ {M : Type 1} (𝓤 : URA M) (H : Heap 𝓤) (A : Atoms 𝓤) (W : Given
 
   -- what the table decides, and what its `ask` leaves of the buffer
   abbrev n : CallEffect
-  n = callEffect (tableOf ys) i used (afterAsk (association (eight ys) i) (length (x′ .now)) version clock token up)
+  n = callEffect (tableOf ys i) i used (afterAsk (association ys i) (length (x′ .now)) version clock token up)
 
   abbrev left : List ℕ
-  left = kept (tableTests (tableOf ys) i used pass) (x′ .now) (afterAskBuffer (association (eight ys) i) (x′ .now) version clock token up)
+  left = kept (tableTests (tableOf ys i) i used pass) (x′ .now) (afterAskBuffer (association ys i) (x′ .now) version clock token up)
 
   -- the machine value that is returned
   abbrev result : Val
@@ -164,12 +164,12 @@ module _ {M : Type 1} (𝓤 : URA M) (H : Heap 𝓤) (A : Atoms 𝓤) (W : Given
   Given-to = Table × (ℕ × (ℕ × (RefT (List ℕ) × (ℕ × (Timestamp × (Token × (ℕ × Unit {0})))))))
 
   abbrev given : Given-to
-  given = (tableOf ys, (i, (used, (x′, (version, (clock, (token, (up, tt))))))))
+  given = (tableOf ys i, (i, (used, (x′, (version, (clock, (token, (up, tt))))))))
 
   abbrev to-decide : Val → Decide 𝓤 H A mem run .Ghost
   to-decide v = (((κ′, tt), (q′, tt), tt, given, (v ∷ [], (vint w64 i ∷ [], (vint w64 used ∷ [], (s′ ∷ [], (vint w8 version ∷ [], (time ∷ [], (mark ∷ [], (vint w64 up ∷ [], tt))))))))), tt)
 
-  goes-decide : (v : Val) → Is B.the-row (tableOf ys) (v ∷ []) → ent 𝓤 (⋆ 𝓤 H A (‵ (flft κ′ q′) ∷ ‵ Buffer ∷ [])) (Decide 𝓤 H A mem run .pre (to-decide v))
+  goes-decide : (v : Val) → Is B.the-row (tableOf ys i) (v ∷ []) → ent 𝓤 (⋆ 𝓤 H A (‵ (flft κ′ q′) ∷ ‵ Buffer ∷ [])) (Decide 𝓤 H A mem run .pre (to-decide v))
   goes-decide v is =
       qed W (‵ (flft κ′ q′) ∷ ‵ Buffer ∷ []) ∵ nothing ! $
       owned ! u64 (Is u64) (uint-makes 𝓤 H A W w64) up _ (refl, up-fits) $ fjoin ! $
@@ -179,7 +179,7 @@ module _ {M : Type 1} (𝓤 : URA M) (H : Heap 𝓤) (A : Atoms 𝓤) (W : Given
       move ! (2 ∷ 0 ∷ []) $ fjoin ! $
       owned ! usize (Is usize) (uint-makes 𝓤 H A W w64) used _ (refl, used-fits) $ fjoin ! $
       owned ! usize (Is usize) (uint-makes 𝓤 H A W w64) i _ (refl, i-fits) $ fjoin ! $
-      owned ! B.the-row (Is B.the-row) (LL.makes B.the-type B′.the-plain 𝓤 H A) (tableOf ys) _ is $ fjoin ! $
+      owned ! B.the-row (Is B.the-row) (LL.makes B.the-type B′.the-plain 𝓤 H A) (tableOf ys i) _ is $ fjoin ! $
       nothing ! $ move ! (2 ∷ 0 ∷ []) $ join ! $ join ! $ frame ! $ done !
 
   -- what is told of the parameters at exit: the buffer alone has a last value
@@ -210,8 +210,8 @@ module _ {M : Type 1} (𝓤 : URA M) (H : Heap 𝓤) (A : Atoms 𝓤) (W : Given
         -- `load`
         sets ! (slot 11) (behind ! (slot 1) refl refl refl refl) refl (tt, tt) $
         sets ! (slot 12) (agg ! (local ! (slot 11) refl ▸ field-of ! (slot 1) 1 refl refl refl ▸ no-more !)) refl (tt, (tt, (record { fits = room .0 }, tt))) $
-        loads 𝓤 H A W mem run κ q b o γ ys room C Λ fm known-load (λ ν δ. local ! (slot 12) refl ▸ no-more !) (λ v t-is.
-        lands-in ! (slot 10) refl (LL.lawful B.the-type B′.the-laws 𝓤 H A W .typed (tableOf ys) _ t-is .0) $
+        loads 𝓤 H A W mem run κ q b o γ ys room C Λ fm known-load i i-fits (λ ν δ. local ! (slot 12) refl ▸ local ! (slot 2) refl ▸ no-more !) (λ v t-is.
+        lands-in ! (slot 10) refl (LL.lawful B.the-type B′.the-laws 𝓤 H A W .typed (tableOf ys i) _ t-is .0) $
         -- the table's `ask`
         sets ! (slot 13) (behind ! (slot 4) refl refl refl refl) refl (tt, tt) $
         sets ! (slot 14) (agg ! (local ! (slot 13) refl ▸ field-of ! (slot 4) 1 refl refl refl ▸ no-more !)) refl (tt, (tt, (record { fits = room′ .0 }, tt))) $

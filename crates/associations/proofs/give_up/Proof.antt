@@ -42,7 +42,7 @@ use Rattle.client.specs.GiveUp.{gaveUp}
 use Rattle.association_rules.specs.declared.Table.{Table}
 use Rattle.association_rules.specs.declared.CallEffect.{CallEffect}
 use Rattle.association_rules.specs.Associations.{association, gaveUpFor, listAfterGiveUp}
-use Rattle.association_rules.specs.Table.{eight, tableOf, callEffect}
+use Rattle.association_rules.specs.Table.{tableOf, callEffect}
 use Rattle.association_rules.proofs.AsList.{call-as-list}
 use Rattle.association_rules.proofs.Table as B
 use Rattle.association_rules.proofs.Table.Laws as B′
@@ -96,7 +96,7 @@ module _ {M : Type 1} (𝓤 : URA M) (H : Heap 𝓤) (A : Atoms 𝓤) (W : Given
 
   -- what the table decides
   abbrev n : CallEffect
-  n = callEffect (tableOf ys) i used (gaveUp (association (eight ys) i) up)
+  n = callEffect (tableOf ys i) i used (gaveUp (association ys i) up)
 
   -- the machine value that is returned
   abbrev result : Val
@@ -134,18 +134,18 @@ module _ {M : Type 1} (𝓤 : URA M) (H : Heap 𝓤) (A : Atoms 𝓤) (W : Given
   Given-to = Table × (ℕ × (ℕ × (ℕ × Unit {0})))
 
   abbrev given : Given-to
-  given = (tableOf ys, (i, (used, (up, tt))))
+  given = (tableOf ys i, (i, (used, (up, tt))))
 
   abbrev to-decide : Val → Decide 𝓤 H A mem run .Ghost
   to-decide v = ((tt, tt, tt, given, (v ∷ [], (vint w64 i ∷ [], (vint w64 used ∷ [], (vint w64 up ∷ [], tt))))), tt)
 
-  goes-decide : (v : Val) → Is B.the-row (tableOf ys) (v ∷ []) → ent 𝓤 (emp 𝓤) (Decide 𝓤 H A mem run .pre (to-decide v))
+  goes-decide : (v : Val) → Is B.the-row (tableOf ys i) (v ∷ []) → ent 𝓤 (emp 𝓤) (Decide 𝓤 H A mem run .pre (to-decide v))
   goes-decide v is =
       qed W ([]) ∵ nothing ! $
       owned ! u64 (Is u64) (uint-makes 𝓤 H A W w64) up _ (refl, up-fits) $ fjoin ! $
       owned ! usize (Is usize) (uint-makes 𝓤 H A W w64) used _ (refl, used-fits) $ fjoin ! $
       owned ! usize (Is usize) (uint-makes 𝓤 H A W w64) i _ (refl, i-fits) $ fjoin ! $
-      owned ! B.the-row (Is B.the-row) (LL.makes B.the-type B′.the-plain 𝓤 H A) (tableOf ys) _ is $ fjoin ! $
+      owned ! B.the-row (Is B.the-row) (LL.makes B.the-type B′.the-plain 𝓤 H A) (tableOf ys i) _ is $ fjoin ! $
       nothing ! $ join ! $ frame ! $ done !
 
   decide-said : (m : CallEffect) → ent 𝓤 (ensured 𝓤 H A decide.ended (decide.clauses 𝓤 H A mem run) tt given tt m) (fact 𝓤 (m ≡ n))
@@ -170,8 +170,8 @@ module _ {M : Type 1} (𝓤 : URA M) (H : Heap 𝓤) (A : Atoms 𝓤) (W : Given
         -- `load`
         sets ! (slot 7) (behind ! (slot 1) refl refl refl refl) refl (tt, tt) $
         sets ! (slot 8) (agg ! (local ! (slot 7) refl ▸ field-of ! (slot 1) 1 refl refl refl ▸ no-more !)) refl (tt, (tt, (record { fits = room .0 }, tt))) $
-        loads 𝓤 H A W mem run κ q b o γ ys room C Λ fm known-load (λ ν δ. local ! (slot 8) refl ▸ no-more !) (λ v t-is.
-        lands-in ! (slot 6) refl (LL.lawful B.the-type B′.the-laws 𝓤 H A W .typed (tableOf ys) _ t-is .0) $
+        loads 𝓤 H A W mem run κ q b o γ ys room C Λ fm known-load i i-fits (λ ν δ. local ! (slot 8) refl ▸ local ! (slot 2) refl ▸ no-more !) (λ v t-is.
+        lands-in ! (slot 6) refl (LL.lawful B.the-type B′.the-laws 𝓤 H A W .typed (tableOf ys i) _ t-is .0) $
         -- the table's `give_up`
         use0 W (raw (Decide 𝓤 H A mem run .pre (to-decide v))) (goes-decide v t-is) $
         calls-at ! fm (Decide 𝓤 H A mem run) known-decide (to-decide v)

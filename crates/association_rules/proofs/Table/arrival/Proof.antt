@@ -31,8 +31,8 @@ returns-2 c =
     let reads = exists .before in
     let finds = reads .before in
     let s = finds .before .before .before .before .args in
-    rw (c .use-after .ensures, arrives .arrival .ensures, exists .exists .ensures, reads .record .ensures, finds .alternate .ensures)
+    rw (c .use-after .ensures, arrives .arrival .ensures, exists .exists .ensures, finds .alternate .ensures)
     (passed-first (notArrived (s .self) (s .in-use)) (s .self) (s .at) (s .in-use) _ (none (finds .before)))
 
 pub arrival-spec : {M : Type 1} → statement M
-arrival-spec = tie.close (tie.spec _ _ returns alternate-requires _ _ (λ c κs. search needs) _ returns-2)
+arrival-spec = tie.close (tie.spec _ _ returns alternate-requires _ (λ c κs. search needs) _ returns-2)

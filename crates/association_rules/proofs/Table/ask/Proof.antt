@@ -30,10 +30,10 @@ returns-2 c =
     let start = else1 .before .before .before in
     let s = start .args in
     let none : number (table start) ≡ 0 = sym (else1 .before .first-refusal .ensures) ∙ else1 .if1 .left in (
-      rw (asks .ask .ensures .0, reads .record .ensures)
+      rw (asks .ask .ensures .0)
           (passed-first (notCalled (s .self) (s .in-use)) (s .self) (s .at) (s .in-use) _ none),
-      rw (reads .record .ensures) at (asks .ask .ensures .1) ∙ sym (kept-passing (table start) _ _ tt none),
+      asks .ask .ensures .1 ∙ sym (kept-passing (table start) _ _ tt none),
     )
 
 pub ask-spec : {M : Type 1} → statement M
-ask-spec = tie.close (tie.spec _ _ returns _ (λ c κs. search needs) (λ c. search needs) returns-2)
+ask-spec = tie.close (tie.spec _ _ returns (λ c κs. search needs) (λ c. search needs) returns-2)

@@ -17,8 +17,8 @@ returns-2 c =
     let reads = c .before .before in
     let else1 = reads .before in
     let s = else1 .before .before .args in
-    rw (c .before .give-up .ensures, reads .record .ensures)
+    rw (c .before .give-up .ensures)
     (passed-first (notCalled (s .self) (s .in-use)) (s .self) (s .at) (s .in-use) _ (sym (else1 .before .first-refusal .ensures) ∙ else1 .if1 .left))
 
 pub give-up-spec : {M : Type 1} → statement M
-give-up-spec = tie.close (tie.spec _ _ returns _ _ returns-2)
+give-up-spec = tie.close (tie.spec _ _ returns _ returns-2)

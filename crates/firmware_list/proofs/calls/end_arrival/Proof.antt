@@ -16,11 +16,11 @@ use Rattle.firmware_list.proofs.calls.end_arrival.Tie as tie
 returns : tie.Need-returns
 returns c =
     let told = c .before in
-    let a = told .before .before .before .before .before .args in
+    let a = told .before .before .before .before .before .before .args in
     let is = told .told .given .1 in (
       sym (ap (λ z. numberOf (saidArrival z)) is),
       (
-        sym (ap (λ z. nextOctets (now (a .list)) (saidArrival z) (a .effect .at) (a .effect .client)) is),
+        sym (ap (λ z. nextOctets (now (a .list)) (saidArrival z) (a .at) (a .arrived .client)) is),
         kept (now (a .answer)) _ ∙ sym (ap (λ z. withAnswer (now (a .answer)) (saidArrival z)) is),
       ),
     )
@@ -30,13 +30,13 @@ returns-2 c =
     let store = c .before .before in
     let answer = store .before .before .before .before in
     let told = answer .before .before .before in
-    let a = told .before .before .before .before .before .args in
+    let a = told .before .before .before .before .before .before .args in
     let is = told .told2 .given .1 in
     let o : SFits w64 (told .told2 .given .0 .0) = search needs in
     let d : SFits w64 (told .told2 .given .0 .1 .1 .0) = search needs in (
       sym (ap (λ z. numberOf (saidArrival z)) is),
       (
-        store .store .ensures ∙ sym (ap (λ z. nextOctets (now (a .list)) (saidArrival z) (a .effect .at) (a .effect .client)) is),
+        store .store .ensures ∙ sym (ap (λ z. nextOctets (now (a .list)) (saidArrival z) (a .at) (a .arrived .client)) is),
         rw (toZ-ofZ o, toZ-ofZ d) at (answer .write-accepted .ensures) ∙ sym (ap (λ z. withAnswer (now (a .answer)) (saidArrival z)) is),
       ),
     )
@@ -46,11 +46,11 @@ returns-3 c =
     let store = c .before .before in
     let answer = store .before .before .before .before in
     let told = answer .before .before .before in
-    let a = told .before .before .before .before .before .args in
+    let a = told .before .before .before .before .before .before .args in
     let is = told .told3 .given .1 in (
       sym (ap (λ z. numberOf (saidArrival z)) is),
       (
-        store .store2 .ensures ∙ sym (ap (λ z. nextOctets (now (a .list)) (saidArrival z) (a .effect .at) (a .effect .client)) is),
+        store .store2 .ensures ∙ sym (ap (λ z. nextOctets (now (a .list)) (saidArrival z) (a .at) (a .arrived .client)) is),
         answer .write-kiss .ensures ∙ sym (ap (λ z. withAnswer (now (a .answer)) (saidArrival z)) is),
       ),
     )

@@ -12,10 +12,10 @@ returns-2 : tie.Need-returns-2
 returns-2 c =
     let store = c .before .before in
     let told = store .before .before in
-    let a = told .before .before .before .before .args in
+    let a = told .before .before .before .before .before .args in
     let done = told .enum-told .given .1 in (
       sym (ap (λ z. numberOf (saidCall z)) done),
-      store .store .ensures ∙ sym (ap (λ z. nextOctets (now (a .list)) (saidCall z) (a .effect .at) (a .effect .client)) done),
+      store .store .ensures ∙ sym (ap (λ z. nextOctets (now (a .list)) (saidCall z) (a .at) (a .called .client)) done),
     )
 
 pub end-call-spec : {M : Type 1} → statement M

@@ -1,23 +1,18 @@
-// The number of the record in use, of a list of so many records: whether it is in the list, and where it goes after a kiss (docs/RULES.md, "Associations").
+// The number of the record in use: whether it is in the list, and where it goes after a kiss (docs/RULES.md, "Associations").
 ghost use mathlib.Core.Path.{_≡_};
-ghost use Rattle.in_use.specs.InUse.{outside, exists, useAfter, useAfterKiss};
+ghost use Rattle.association_rules.specs.InUse.{outside, exists, useAfter, useAfterKiss};
+use crate::Alternate;
 use reply_checks::ArrivalAnswer;
 
-// The number of the alternate, if there is one.
-pub enum Alternate {
-    None,
-    Record(usize),
-}
-
 // The list is empty or has more than eight records, or one of the two numbers is not in it.
-pub fn outside(count: usize, at: usize, in_use: usize) -> bool
+pub(crate) fn outside(count: usize, at: usize, in_use: usize) -> bool
     ensures { λ r. ⌜ r ≡ outside count at in_use ⌝ }
 {
     !((1 <= count) & (count <= 8)) | !(at < count) | !(in_use < count)
 }
 
 impl Alternate {
-    pub fn exists(self) -> bool
+    pub(crate) fn exists(self) -> bool
         ensures { λ r. ⌜ r ≡ exists self ⌝ }
     {
         match self {
@@ -41,7 +36,7 @@ impl Alternate {
     }
 
     // The number in use after an arrival for this record was answered so.
-    pub fn use_after(self, answer: ArrivalAnswer, at: usize, in_use: usize) -> usize
+    pub(crate) fn use_after(self, answer: ArrivalAnswer, at: usize, in_use: usize) -> usize
         ensures { λ r. ⌜ r ≡ useAfter answer self at in_use ⌝ }
     {
         match answer {

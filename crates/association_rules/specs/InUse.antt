@@ -4,7 +4,7 @@ use mathlib.Core.Bool.{Bool, true, false, cond, not, _||_}
 use lib.Dec.{eqb, ltb}
 use Rattle.ordered_tests.specs.Tests.{between}
 use Rattle.reply_checks.specs.declared.ArrivalAnswer.{ArrivalAnswer}
-use Rattle.in_use.specs.declared.Alternate.{Alternate}
+use Rattle.association_rules.specs.declared.Alternate.{Alternate}
 
 -- the list is empty or has more than eight records, or one of the two numbers is not in it
 unfoldable pub outside : (count at inUse : ℕ) → Bool

@@ -1,9 +1,9 @@
--- `in_use::Alternate::use_after` meets its contract, in each case of the answer. Assumes nothing.
+-- `association_rules::Alternate::use_after` meets its contract, in each case of the answer. Assumes nothing.
 use mathlib.Core.Path.{sym, ap, _∙_}
 use borrow.Author.Needs.{needs}
-use Rattle.in_use.specs.InUse.{useAfter}
-use Rattle.in_use.proofs.Alternate.use_after.Statement.{statement}
-use Rattle.in_use.proofs.Alternate.use_after.Tie as tie
+use Rattle.association_rules.specs.InUse.{useAfter}
+use Rattle.association_rules.proofs.Alternate.use_after.Statement.{statement}
+use Rattle.association_rules.proofs.Alternate.use_after.Tie as tie
 
 returns-3 : tie.Need-returns-3
 returns-3 c =

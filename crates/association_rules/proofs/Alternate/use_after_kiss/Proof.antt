@@ -1,8 +1,8 @@
--- `in_use::Alternate::use_after_kiss` meets its contract, with an alternate and without. Assumes nothing.
+-- `association_rules::Alternate::use_after_kiss` meets its contract, with an alternate and without. Assumes nothing.
 use borrow.Author.Needs.{needs}
 use borrow.Author.Tests.{eq-eqb, ne-eqb}
-use Rattle.in_use.proofs.Alternate.use_after_kiss.Statement.{statement}
-use Rattle.in_use.proofs.Alternate.use_after_kiss.Tie as tie
+use Rattle.association_rules.proofs.Alternate.use_after_kiss.Statement.{statement}
+use Rattle.association_rules.proofs.Alternate.use_after_kiss.Tie as tie
 
 returns : tie.Need-returns
 returns c = rw (c .before .before .self .given .1, eq-eqb _ _ (c .if1 .taken))
