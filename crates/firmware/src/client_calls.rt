@@ -1,4 +1,4 @@
-// The client on an image. Every call refuses by 46 before anything else; of a refusal the number is all, and no lent octet changes.
+// The client on an image. Every call refuses by 46 before anything else. A refused call returns its number and writes nothing.
 ghost use mathlib.Core.Path.{_≡_};
 ghost use Rattle.client.specs.Calls.{saidCall, saidArrival};
 ghost use Rattle.firmware_layouts.specs.Answer.{withAnswer};

@@ -24,7 +24,8 @@ pub fn narrow_signed(n: i32) -> i8
     n as i8
 }
 
-pub(crate) fn replied_number(answer: ReplyAnswer) -> u8
+// A refusal's number, and 0 for a reply.
+pub fn replied_number(answer: ReplyAnswer) -> u8
     ensures { λ r. ⌜ r ≡ repliedNumber answer ⌝ }
 {
     match answer {

@@ -13,7 +13,8 @@ use Rattle.packet.specs.Packet.{packetLength, packetAt}
 use Rattle.server_packet.specs.declared.Settings.{Settings}
 use Rattle.server.specs.Server.{replied, repliedBuffer}
 use Rattle.server.proofs.Replies as server
-use Rattle.reply_block.specs.Block.{numberOf, blockCount, receiveAt, transmitAt, replyAt, numberAt, blockReplies, blockNumbers}
+use Rattle.firmware.specs.Numbers.{repliedNumber}
+use Rattle.reply_block.specs.Block.{blockCount, receiveAt, transmitAt, replyAt, numberAt, blockReplies, blockNumbers}
 use Rattle.reply_block.specs.Laws.{BlockLaws}
 
 -- the octets from 48 * i to 48 * i + 48, lent for a reply and put back
@@ -28,7 +29,7 @@ module _ (s : Settings) (i : ℕ) (requests times replies : List ℕ) where
       put-back 48 replies (48 * i) (repliedBuffer s (packetAt i requests) (receiveAt i times) (transmitAt i times))
       (e ∙ rw (same-part 48 requests (48 * i)))
 
-  pub put-number : {number : ℕ} → number ≡ numberOf (replied s (lent requests) (receiveAt i times) (transmitAt i times) (lent replies))
+  pub put-number : {number : ℕ} → number ≡ repliedNumber (replied s (lent requests) (receiveAt i times) (transmitAt i times) (lent replies))
       → number ≡ numberAt s i requests times replies
   put-number e = e ∙ rw (same-part 48 requests (48 * i), same-part 48 replies (48 * i))
 

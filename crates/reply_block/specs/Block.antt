@@ -1,23 +1,14 @@
 -- What the server replies to requests that stand one after another: to each what `server::reply` replies to it.
 use Prim.Native.Nat.{ℕ, min, _+_, _*_, _/_}
-use mathlib.Core.Bool.{not}
 use mathlib.Core.List.{List, [], _∷_}
-use lib.Dec.{eqb}
-use lib.IntN.{ℤ}
 use lib.ListN.{length, getD}
 use Rattle.arithmetic.specs.Parts.{replaced}
 use Rattle.timestamp.specs.declared.Timestamp.{Timestamp}
 use Rattle.timestamp.specs.Timestamp.{timestamp}
 use Rattle.packet.specs.Packet.{packetLength, packetCount, packetAt}
 use Rattle.server_packet.specs.declared.Settings.{Settings}
-use Rattle.server.specs.declared.ReplyAnswer.{ReplyAnswer}
-use Rattle.server.specs.declared.ReplyAnswer.the-variants.{Refused, Written}
 use Rattle.server.specs.Server.{replied, repliedBuffer}
-
--- a refusal's number, and 0 for a reply
-abbrev pub numberOf : ReplyAnswer → ℕ
-numberOf (Refused n) = n
-numberOf Written = 0
+use Rattle.firmware.specs.Numbers.{repliedNumber}
 
 -- how many requests are answered: each takes 48 octets of the requests, two times, 48 octets of the replies and a number
 abbrev pub blockCount : (requests times replies numbers : List ℕ) → ℕ
@@ -36,7 +27,7 @@ abbrev pub replyAt : Settings → ℕ → (requests times replies : List ℕ) �
 replyAt s k requests times replies = repliedBuffer s (packetAt k requests) (receiveAt k times) (transmitAt k times) (packetAt k replies)
 
 abbrev pub numberAt : Settings → ℕ → (requests times replies : List ℕ) → ℕ
-numberAt s k requests times replies = numberOf (replied s (packetAt k requests) (receiveAt k times) (transmitAt k times) (packetAt k replies))
+numberAt s k requests times replies = repliedNumber (replied s (packetAt k requests) (receiveAt k times) (transmitAt k times) (packetAt k replies))
 
 -- the replies once n requests are answered, and the numbers; what is past them stays
 unfoldable pub blockReplies : Settings → ℕ → (requests times replies : List ℕ) → List ℕ
@@ -44,13 +35,3 @@ blockReplies s n requests times replies = replaced packetLength replies (λ k. r
 
 unfoldable pub blockNumbers : Settings → ℕ → (requests times replies numbers : List ℕ) → List ℕ
 blockNumbers s n requests times replies numbers = replaced 1 numbers (λ k. numberAt s k requests times replies ∷ []) n
-
--- the settings that C hands in one by one; synchronised is no at 0, else yes
-abbrev pub settingsOf : (synchronised leap : ℕ) → ℤ → (identifier reference : ℕ) → Settings
-settingsOf synchronised leap precision identifier reference = record {
-  synchronised = not (eqb synchronised 0);
-  leap = leap;
-  precision = precision;
-  identifier = identifier;
-  reference = timestamp reference;
-}

@@ -6,30 +6,21 @@ ghost use lib.ListN.{set, take, drop};
 ghost use Rattle.timestamp.specs.Timestamp.{timestamp};
 ghost use Rattle.packet.specs.Packet.{packetLength};
 ghost use Rattle.server.specs.Server.{replied, repliedBuffer};
-ghost use Rattle.reply_block.specs.Block.{numberOf, blockCount, numberAt, replyAt, blockReplies, blockNumbers};
-use server::ReplyAnswer;
+ghost use Rattle.firmware.specs.Numbers.{repliedNumber};
+ghost use Rattle.reply_block.specs.Block.{blockCount, numberAt, replyAt, blockReplies, blockNumbers};
+use firmware::numbers::replied_number;
 use server_packet::Settings;
 use slices::least;
 use timestamp::Timestamp;
 
 pub mod c_entry;
 
-// A refusal's number, and 0 for a reply.
-fn number_of(answer: ReplyAnswer) -> u8
-    ensures { λ r. ⌜ r ≡ numberOf answer ⌝ }
-{
-    match answer {
-        ReplyAnswer::Refused(number) => number,
-        ReplyAnswer::Written => 0,
-    }
-}
-
 // Replies to one request, and gives the number.
 fn reply_number(settings: Settings, request: &[u8], t2: u64, t3: u64, buffer: &mut [u8]) -> u8
-    ensures number { λ r. ⌜ r ≡ numberOf (replied settings (now (request .entry)) (timestamp t2) (timestamp t3) (now (buffer .entry))) ⌝ }
+    ensures number { λ r. ⌜ r ≡ repliedNumber (replied settings (now (request .entry)) (timestamp t2) (timestamp t3) (now (buffer .entry))) ⌝ }
     ensures buffer { λ _. ⌜ now (buffer .exit) ≡ repliedBuffer settings (now (request .entry)) (timestamp t2) (timestamp t3) (now (buffer .entry)) ⌝ }
 {
-    number_of(server::reply(settings, request, Timestamp(t2), Timestamp(t3), buffer))
+    replied_number(server::reply(settings, request, Timestamp(t2), Timestamp(t3), buffer))
 }
 
 // How many requests are answered, by the four lengths.
