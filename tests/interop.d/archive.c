@@ -25,19 +25,12 @@ static uint64_t number_of(const char *digits) {
     return strtoull(digits, NULL, 16);
 }
 
-static int64_t number_at(const uint8_t *octets) {
-    uint64_t number = 0;
-    for (int i = 0; i < 8; i++)
-        number = number << 8 | octets[i];
-    return (int64_t)number;
-}
-
 static void print_answer(const uint8_t answer[PONGULVESZ_ANSWER]) {
-    const uint8_t *code = answer + 4;
-    if (answer[0] == PONGULVESZ_KISS)
-        printf("kiss %02X%02X%02X%02X\n", code[0], code[1], code[2], code[3]);
+    if (pongulvesz_answer_kind(answer) == PONGULVESZ_KISS)
+        printf("kiss %08" PRIX32 "\n", pongulvesz_answer_code(answer));
     else
-        printf("accepted %" PRId64 " %d %" PRId64 "\n", number_at(answer + 8), answer[1], number_at(answer + 16));
+        printf("accepted %" PRId64 " %" PRIu32 " %" PRId64 "\n", pongulvesz_answer_offset(answer),
+               pongulvesz_answer_half(answer), pongulvesz_answer_delay(answer));
 }
 
 static void arrival(uint64_t t1, uint64_t token, uint64_t t4, const char *packet) {
