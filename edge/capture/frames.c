@@ -14,17 +14,8 @@ struct replay {
     struct frames *frames;
 };
 
-/* Octets of the image (docs/C.md, "Layouts"). */
 static int is_waiting(const struct replay *replay) {
-    return replay->image[0] == 1;
-}
-
-static uint64_t uptime_of_last_ask(const struct replay *replay) {
-    return number_at(replay->image + 24, 8, BIG_ENDIAN_ORDER);
-}
-
-static uint64_t poll_interval(const struct replay *replay) {
-    return UINT64_C(1) << (6 + replay->image[3]);
+    return pongulvesz_image_phase(replay->image) == PONGULVESZ_WAITING;
 }
 
 static void put_octets(const uint8_t *octets, size_t length) {
@@ -54,9 +45,8 @@ static uint32_t try_ask(struct replay *replay, const struct packet *packet, uint
                           token, packet->uptime + replay->frames->moved);
 }
 
-/* Moves uptimes, this one's and all behind it, so that this one is so many seconds past the last ask. */
-static void spread(struct replay *replay, const struct packet *packet, uint64_t seconds) {
-    uint64_t wanted = uptime_of_last_ask(replay) + seconds;
+/* Moves uptimes, this one's and all behind it, so that this one is not before the wanted uptime. */
+static void spread(struct replay *replay, const struct packet *packet, uint64_t wanted) {
     if (packet->uptime + replay->frames->moved < wanted)
         replay->frames->moved = wanted - packet->uptime;
 }
@@ -66,10 +56,11 @@ static void spread(struct replay *replay, const struct packet *packet, uint64_t 
 static void give_up_before(struct replay *replay, const struct packet *packet) {
     if (!is_waiting(replay))
         return;
+    uint64_t last_ask = pongulvesz_image_uptime(replay->image);
     if (replay->options->spread)
-        spread(replay, packet, replay->options->give_up);
+        spread(replay, packet, last_ask + replay->options->give_up);
     uint64_t uptime = packet->uptime + replay->frames->moved;
-    if (uptime - uptime_of_last_ask(replay) < replay->options->give_up)
+    if (uptime - last_ask < replay->options->give_up)
         return;
     put_frame(GIVE_UP, uptime, packet->clock, NULL, 0);
     replay->frames->give_ups++;
@@ -82,7 +73,9 @@ static void write_ask(struct replay *replay, const struct packet *packet, const 
     give_up_before(replay, packet);
     uint32_t number = try_ask(replay, packet, token);
     if (number == PONGULVESZ_ASKED_TOO_SOON && replay->options->spread) {
-        spread(replay, packet, poll_interval(replay));
+        uint64_t due = 0;
+        pongulvesz_ask_due(replay->image, sizeof replay->image, &due);
+        spread(replay, packet, due);
         number = try_ask(replay, packet, token);
     }
     put_frame(ASK, packet->uptime + replay->frames->moved, packet->clock, octets + TRANSMIT, 8);
@@ -102,7 +95,7 @@ static void write_arrival(struct replay *replay, const struct packet *packet, co
     frames->arrivals++;
     uint32_t number = pongulvesz_arrival(replay->image, sizeof replay->image, answer, sizeof answer, packet->clock,
                                          NO_ALTERNATE, octets, packet->length);
-    count_answer(replay, number, number == 0 && answer[0] == PONGULVESZ_KISS ? &frames->kisses : &frames->accepted);
+    count_answer(replay, number, number == 0 && pongulvesz_answer_kind(answer) == PONGULVESZ_KISS ? &frames->kisses : &frames->accepted);
 }
 
 void write_frames(const struct stream *stream, const struct pair *pair, const struct options *options,

@@ -2,13 +2,14 @@
 
 #include <errno.h>
 #include <getopt.h>
+#include <pongulvesz.h>
 #include <stdio.h>
 #include <stdlib.h>
 
-/* The least that the rules let a client wait for a reply, in seconds (docs/RULES.md, refusal 20). */
-enum { LEAST_GIVE_UP = 16 };
-
 enum { NTP_PORT = 123 };
+
+/* The least that the rules let a client wait for a reply, in seconds (docs/RULES.md, refusal 20). */
+static const unsigned long LEAST_GIVE_UP = PONGULVESZ_LIMIT / PONGULVESZ_SECOND;
 
 static const char help[] =
     "Usage: pongulvesz-capture [OPTION...] FILE\n"
@@ -18,7 +19,7 @@ static const char help[] =
     "  --client ADDRESS[:PORT]   the client; without it the file must tell of one client alone\n"
     "  --server ADDRESS[:PORT]   the server; without it the file must tell of one server alone\n"
     "  --port N                  the port of the server, 123 where neither this nor --server gives it\n"
-    "  --give-up SECONDS         give an unanswered request up where the next comes so much later: 16 or more\n"
+    "  --give-up SECONDS         give a request up if the next comes SECONDS later or more: 16 or more\n"
     "  --spread                  move uptimes forward, so that no request is refused for having come too soon\n"
     "  --quiet                   no summary on standard error\n"
     "  --help, --version\n"

@@ -29,7 +29,7 @@ static void write_signed(int has, int64_t number) {
         printf("%" PRId64, number);
 }
 
-static void write_code(int has, const uint8_t code[4]) {
+static void write_code(int has, uint32_t code) {
     char text[CODE_TEXT] = "";
     if (has)
         code_in_characters(code, text);

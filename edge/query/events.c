@@ -10,9 +10,11 @@ static int stands_for_itself(uint8_t octet) {
     return 0x20 <= octet && octet <= 0x7E && octet != ',' && octet != '"' && octet != '\\';
 }
 
-void code_in_characters(const uint8_t code[4], char text[CODE_TEXT]) {
-    for (int i = 0; i < 4; i++)
-        text += snprintf(text, 5, stands_for_itself(code[i]) ? "%c" : "\\x%02X", code[i]);
+void code_in_characters(uint32_t code, char text[CODE_TEXT]) {
+    for (int shift = 24; shift >= 0; shift -= 8) {
+        uint8_t octet = (uint8_t)(code >> shift);
+        text += snprintf(text, 5, stands_for_itself(octet) ? "%c" : "\\x%02X", octet);
+    }
 }
 
 void begin_events(const struct client *client) {

@@ -36,8 +36,8 @@ struct event {
     uint32_t number;   /* of the refusal, or 0 */
     const char *words; /* of a refusal: what was refused; of an error: what it is */
     unsigned has;
-    uint8_t code[4];
-    uint8_t row;    /* of the kiss code, 1 to 14, or 0 */
+    uint32_t code; /* of a kiss, its first character in the highest octet */
+    uint32_t row;  /* of that code: PONGULVESZ_KISS_ACST to PONGULVESZ_KISS_STEP, or PONGULVESZ_KISS_OTHER */
     int64_t offset; /* in units of 2^-32 s; of a payment in half units */
     uint32_t half;
     int64_t delay; /* in units of 2^-32 s */
@@ -52,7 +52,7 @@ enum { CODE_TEXT = 17 };
 
 /* The code in characters: what is not printable, and what has a meaning in comma-separated values or in this notation,
  * is \xHH. */
-void code_in_characters(const uint8_t code[4], char text[CODE_TEXT]);
+void code_in_characters(uint32_t code, char text[CODE_TEXT]);
 
 /* Writes the line before all events, where there is one. */
 void begin_events(const struct client *client);

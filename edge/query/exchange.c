@@ -1,7 +1,6 @@
 #include "exchange.h"
 
 #include "events.h"
-#include "images.h"
 #include "ledger.h"
 #include "readings.h"
 #include "sockets.h"
@@ -74,9 +73,9 @@ void ask(struct client *client) {
 static void was_accepted(struct client *client, struct event *event, const uint8_t *answer) {
     event->kind = EVENT_ACCEPTED;
     event->has |= HAS_OFFSET | HAS_HALF | HAS_DELAY;
-    event->offset = offset_of(answer);
-    event->half = answer[1];
-    event->delay = delay_of(answer);
+    event->offset = pongulvesz_answer_offset(answer);
+    event->half = pongulvesz_answer_half(answer);
+    event->delay = pongulvesz_answer_delay(answer);
     report(client, event);
     if (!client->options->measure)
         enter(client, event->server, event->offset, event->half);
@@ -89,10 +88,10 @@ static void was_accepted(struct client *client, struct event *event, const uint8
 static void was_kissed(struct client *client, struct event *event, const uint8_t *answer) {
     event->kind = EVENT_KISS;
     event->has |= HAS_CODE;
-    event->row = answer[2];
-    memcpy(event->code, answer + 4, sizeof event->code);
+    event->row = pongulvesz_answer_row(answer);
+    event->code = pongulvesz_answer_code(answer);
     report(client, event);
-    if (phase_of(image_at(client, event->server)) == STOPPED)
+    if (pongulvesz_image_phase(image_at(client, event->server)) == PONGULVESZ_STOPPED)
         report(client, &(struct event){.kind = EVENT_STOPPED, .server = event->server});
     int moved = client->state.in_use != event->server;
     if (moved)
@@ -114,8 +113,8 @@ static void judge(struct client *client, const struct received *received) {
     size_t at = state->in_use;
     uint8_t answer[PONGULVESZ_ANSWER];
     struct event event = {.server = at, .has = HAS_T1 | HAS_T4 | HAS_TOKEN};
-    event.t1 = t1_of(image_at(client, at));
-    event.token = token_of(image_at(client, at));
+    event.t1 = pongulvesz_image_t1(image_at(client, at));
+    event.token = pongulvesz_image_token(image_at(client, at));
     event.t4 = reading_at(client, received->arrived);
     uint32_t number = pongulvesz_list_arrival(state->images, list_length(state), at, &state->in_use, answer,
                                               sizeof answer, event.t4, received->octets, received->length);
@@ -125,7 +124,7 @@ static void judge(struct client *client, const struct received *received) {
     }
     client->changed = 1;
     close_socket(client);
-    if (answer[0] == PONGULVESZ_ACCEPTED)
+    if (pongulvesz_answer_kind(answer) == PONGULVESZ_ACCEPTED)
         was_accepted(client, &event, answer);
     else
         was_kissed(client, &event, answer);

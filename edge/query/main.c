@@ -3,7 +3,6 @@
 #include "errors.h"
 #include "events.h"
 #include "exchange.h"
-#include "images.h"
 #include "ledger.h"
 #include "readings.h"
 #include "state.h"
@@ -55,7 +54,7 @@ static int hand_in_fresh(struct client *client) {
     for (size_t i = 0; i < client->options->server_count; i++) {
         if (!client->options->fresh[i])
             continue;
-        if (phase_of(image_at(client, i)) != STOPPED) {
+        if (pongulvesz_image_phase(image_at(client, i)) != PONGULVESZ_STOPPED) {
             complain("--fresh %zu: %s has not stopped", i + 1, client->options->servers[i]);
             return 0;
         }
@@ -65,14 +64,23 @@ static int hand_in_fresh(struct client *client) {
     return 1;
 }
 
-/* The uptime from which the record in use may be asked or given up. One exchange asks at once, and so is a stopped
- * record asked: the archive refuses what may not be, and that ends the program. */
+static int is_waiting(struct client *client) {
+    return pongulvesz_image_phase(image_at(client, client->state.in_use)) == PONGULVESZ_WAITING;
+}
+
+/* The uptime from which the record in use may be asked or given up, as the archive says. One exchange asks at once, and
+ * so is a stopped record asked: the archive refuses what may not be, and that ends the program. A refused due call leaves
+ * 0, so that the call is tried at once. */
 static uint64_t next_step(struct client *client) {
     const uint8_t *image = image_at(client, client->state.in_use);
-    if (phase_of(image) == WAITING)
-        return give_up_of(image);
-    uint64_t next_ask = client->options->watch && phase_of(image) == IDLE ? next_ask_of(image) : 0;
-    return next_ask > client->ask_not_before ? next_ask : client->ask_not_before;
+    uint64_t due = 0;
+    if (is_waiting(client)) {
+        pongulvesz_give_up_due(image, PONGULVESZ_IMAGE, &due);
+        return due;
+    }
+    if (client->options->watch)
+        pongulvesz_ask_due(image, PONGULVESZ_IMAGE, &due);
+    return due > client->ask_not_before ? due : client->ask_not_before;
 }
 
 /* Waits until a packet or a signal comes, the next step is due, or where something is owed the next second begins. */
@@ -96,7 +104,7 @@ static void step(struct client *client) {
     take_arrivals(client);
     tick(client);
     if (client->outcome == GOING_ON && uptime >= next_step(client)) {
-        if (phase_of(image_at(client, client->state.in_use)) == WAITING)
+        if (is_waiting(client))
             give_up(client, uptime);
         else
             ask(client);

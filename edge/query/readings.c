@@ -12,7 +12,7 @@ int64_t correction_counted(const struct client *client) {
     return client->options->measure ? 0 : client->state.correction;
 }
 
-/* Whole units of so many half units, rounded down. */
+/* Half units in whole units, rounded down. */
 static int64_t units_of(int64_t half_units) {
     return half_units / 2 - (half_units % 2 < 0);
 }

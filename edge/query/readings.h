@@ -20,7 +20,7 @@ uint64_t reading_now(const struct client *client);
 uint64_t uptime_nanoseconds(const struct client *client);
 uint64_t uptime_seconds(const struct client *client);
 
-/* Nanoseconds of the steady clock until the uptime is so many seconds, 0 where it is that already. */
+/* Nanoseconds of the steady clock until this uptime, which is in seconds; 0 if it is there already. */
 uint64_t nanoseconds_until(const struct client *client, uint64_t uptime);
 
 /* The text of the machine's present boot, or "unknown" where the system has none. */

@@ -2,7 +2,6 @@
 
 #include "errors.h"
 #include "files.h"
-#include "images.h"
 #include "readings.h"
 #include "state_text.h"
 
@@ -27,7 +26,7 @@ static const char *refused_by_archive(const struct state *state) {
 static int has_plausible_times(const struct state *state) {
     uint64_t last_ask = 0;
     for (size_t i = 0; i < state->server_count; i++) {
-        uint64_t asked = last_ask_of(state->images + PONGULVESZ_IMAGE * i);
+        uint64_t asked = pongulvesz_image_uptime(state->images + PONGULVESZ_IMAGE * i);
         last_ask = asked > last_ask ? asked : last_ask;
     }
     return state->uptime < LONGEST_UPTIME && last_ask <= state->uptime / 1000000000;

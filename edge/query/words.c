@@ -1,27 +1,26 @@
 #include "decimals.h"
 #include "events.h"
-#include "images.h"
 
 #include <inttypes.h>
 #include <stdio.h>
 
 /* What the rows of kiss codes mean (RFC 4330, section 8). */
 static const char *const kiss_meanings[] = {
-    "a code that RFC 4330 does not list",
-    "the association belongs to an anycast server",
-    "the server's authentication failed",
-    "the Autokey sequence failed",
-    "the association belongs to a broadcast server",
-    "cryptographic authentication or identification failed",
-    "the server denies access",
-    "a peer in symmetric mode was lost",
-    "the server denies access by its local policy",
-    "the server is not synchronised for the first time yet",
-    "the association belongs to a manycast server",
-    "no key was found, or it is not trusted",
-    "the client asked too often",
-    "the association was altered from a remote host",
-    "the server's clock was stepped, and is not synchronised again yet",
+    [PONGULVESZ_KISS_OTHER] = "a code that RFC 4330 does not list",
+    [PONGULVESZ_KISS_ACST] = "the association belongs to an anycast server",
+    [PONGULVESZ_KISS_AUTH] = "the server's authentication failed",
+    [PONGULVESZ_KISS_AUTO] = "the Autokey sequence failed",
+    [PONGULVESZ_KISS_BCST] = "the association belongs to a broadcast server",
+    [PONGULVESZ_KISS_CRYP] = "cryptographic authentication or identification failed",
+    [PONGULVESZ_KISS_DENY] = "the server denies access",
+    [PONGULVESZ_KISS_DROP] = "a peer in symmetric mode was lost",
+    [PONGULVESZ_KISS_RSTR] = "the server denies access by its local policy",
+    [PONGULVESZ_KISS_INIT] = "the server is not synchronised for the first time yet",
+    [PONGULVESZ_KISS_MCST] = "the association belongs to a manycast server",
+    [PONGULVESZ_KISS_NKEY] = "no key was found, or it is not trusted",
+    [PONGULVESZ_KISS_RATE] = "the client asked too often",
+    [PONGULVESZ_KISS_RMOT] = "the association was altered from a remote host",
+    [PONGULVESZ_KISS_STEP] = "the server's clock was stepped, and is not synchronised again yet",
 };
 
 /* An offset with its half, or a payment: in seconds, and exact. */
@@ -64,10 +63,13 @@ static void write_paid(const struct client *client, const struct event *event) {
     write_amount("; owed", half_units_of_number(client->state.debt));
 }
 
+/* The record is idle then, and the archive says from which uptime it may be asked. */
 static void write_gave_up(const struct client *client, const char *server, const struct event *event) {
     const uint8_t *image = client->state.images + PONGULVESZ_IMAGE * event->server;
+    uint64_t due = 0;
+    pongulvesz_ask_due(image, PONGULVESZ_IMAGE, &due);
     printf("gave up waiting for %s; it may be asked again %" PRIu64 " s after that ask", server,
-           poll_interval_of(image));
+           due - pongulvesz_image_uptime(image));
 }
 
 /* The line without its end. */
