@@ -1,4 +1,5 @@
-/* The calls of pongulvesz.h, and beside each of them the numbers other than 0 that its comment there lists. */
+/* The calls of pongulvesz.h, and beside each of them the numbers other than 0 that its comment there lists. A block
+ * returns a count; its numbers are those that its requests get. */
 #ifndef FUZZ_CALLS_H
 #define FUZZ_CALLS_H
 
@@ -9,7 +10,10 @@
     X(ask, 46, 1, 2, 3, 42, 4, 5, 6) \
     X(arrival, 46, 7, 8, 9, 10, 11, 3, 12, 13, 14, 33, 34, 43, 15, 16, 17, 18, 19) \
     X(give_up, 46, 8, 20) \
+    X(ask_due, 46, 4, 5, 6) \
+    X(give_up_due, 46, 8, 20) \
     X(reply, 1, 7, 21, 22, 23, 14, 43, 17) \
+    X(reply_block, 21, 22, 23, 14, 43, 17) \
     X(list_ask, 46, 35, 1, 2, 3, 42, 4, 5, 6) \
     X(list_arrival, 46, 35, 7, 8, 9, 10, 11, 3, 12, 13, 14, 33, 34, 43, 15, 16, 17, 18, 19) \
     X(list_give_up, 46, 35, 8, 20) \
@@ -20,6 +24,10 @@
     X(fields, 7) \
     X(next_field, 7) \
     X(add_field, 27, 7, 44) \
+    X(difference, 43) \
+    X(measure, 43, 15, 16, 17, 18, 19) \
+    X(read_fields, 7) \
+    X(write_fields, 1, 27) \
     X(date, 24) \
     X(timestamp_of_date, 25, 26, 24) \
     X(unix_time, 24) \
@@ -32,7 +40,7 @@
 enum call { CALLS(NAME) CALL_COUNT };
 #undef NAME
 
-/* The archive's call is weak: it is NULL where an archive does not have it. The independent program's has its type. */
+/* The archive's call is weak: it is NULL if an archive does not have it. The independent program's has its type. */
 #define DECLARE(name, ...) \
     extern __typeof__(pongulvesz_##name) pongulvesz_##name __attribute__((weak)); \
     extern __typeof__(pongulvesz_##name) independent_##name;

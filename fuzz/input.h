@@ -17,7 +17,7 @@ static inline uint8_t octet(struct input *input) {
     return *input->octets++;
 }
 
-/* A number of so many octets, big-endian. */
+/* A number of width octets, big-endian. */
 uint64_t number(struct input *input, size_t width);
 
 /* A number about another one: at most 16 from it, from half a circle past it or from 16 s of units past it, further

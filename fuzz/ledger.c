@@ -18,7 +18,7 @@ static void keep_debt(struct state *state, const struct lent *debt) {
     memcpy(&state->debt, debt->independent, sizeof state->debt);
 }
 
-/* Offsets about 0, about both ends of what may be entered, or about half of it. */
+/* Offsets about 0, about both ends of what may be entered, or about half of the upper end. */
 void try_entry(struct input *input, struct state *state) {
     const uint64_t largest = UINT64_C(1) << 40, offsets[] = {0, largest, 0 - largest, largest / 2};
     const struct lent *debt = lend_debt(input, state);

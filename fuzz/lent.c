@@ -79,9 +79,11 @@ static void show(const char *words, const void *octets, size_t length) {
     fputc('\n', stderr);
 }
 
-/* Shows what a call was given, and both answers. */
-static void show_call(uint32_t archive, uint32_t independent, const uint64_t *given, size_t given_count) {
-    fprintf(stderr, "  numbers: archive %" PRIu32 ", independent %" PRIu32 "\n  given:", archive, independent);
+/* Says the fault, shows what the call was given and both answers, and stops the program. */
+static void stop(enum call call, const char *fault, uint64_t archive, uint64_t independent, const uint64_t *given,
+                 size_t given_count) {
+    fprintf(stderr, "pongulvesz_%s: %s\n", name_of(call), fault);
+    fprintf(stderr, "  returned: archive %" PRIu64 ", independent %" PRIu64 "\n  given:", archive, independent);
     for (size_t i = 0; i < given_count; i++)
         fprintf(stderr, " %" PRIX64, given[i]);
     fputc('\n', stderr);
@@ -90,6 +92,7 @@ static void show_call(uint32_t archive, uint32_t independent, const uint64_t *gi
         show("slice, archive:    ", places[i].octets, places[i].length);
         show("slice, independent:", places[i].copy, places[i].length);
     }
+    abort();
 }
 
 static const char *fault_of_answer(const struct place *place, int refused) {
@@ -113,23 +116,36 @@ static const char *fault_beside(const struct place *place) {
     return whole ? NULL : "an octet beside a slice changed";
 }
 
+/* What is wrong with the lent octets, if anything. */
+static const char *fault_of_octets(int refused) {
+    const char *fault = NULL;
+    for (size_t i = 0; fault == NULL && i < lent_count; i++)
+        fault = fault_of_answer(&places[i], refused);
+    for (size_t i = 0; fault == NULL && i < lent_count; i++)
+        fault = fault_beside(&places[i]);
+    return fault;
+}
+
 uint32_t settle(enum call call, uint32_t archive, uint32_t independent, const uint64_t *given, size_t given_count) {
     const char *fault = NULL;
     if (archive != independent)
         fault = "the numbers differ";
     else if (!can_give(call, archive))
         fault = "the header does not list the number";
-    for (size_t i = 0; fault == NULL && i < lent_count; i++)
-        fault = fault_of_answer(&places[i], archive != 0);
-    for (size_t i = 0; fault == NULL && i < lent_count; i++)
-        fault = fault_beside(&places[i]);
-    if (fault != NULL) {
-        fprintf(stderr, "pongulvesz_%s: %s\n", name_of(call), fault);
-        show_call(archive, independent, given, given_count);
-        abort();
-    }
+    else
+        fault = fault_of_octets(archive != 0);
+    if (fault != NULL)
+        stop(call, fault, archive, independent, given, given_count);
     lent_count = 0;
     count_number(call, archive);
+    return archive;
+}
+
+size_t settle_count(enum call call, size_t archive, size_t independent, const uint64_t *given, size_t given_count) {
+    const char *fault = archive != independent ? "the counts differ" : fault_of_octets(0);
+    if (fault != NULL)
+        stop(call, fault, archive, independent, given, given_count);
+    lent_count = 0;
     return archive;
 }
 

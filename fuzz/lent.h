@@ -28,7 +28,7 @@ void lend_at_end(int at_end);
 /* Lends a slice that has these octets. */
 const struct lent *lend(const void *octets, size_t length);
 
-/* Lends a number of so many octets that a call writes. */
+/* Lends a number of width octets that a call writes. */
 const struct lent *lend_number(size_t width);
 
 /* Makes a call of both programs and compares the answers. WITH(side) are the arguments, side being archive or
@@ -37,12 +37,20 @@ const struct lent *lend_number(size_t width);
     settle(CALL_##name, pongulvesz_##name(WITH(archive)), independent_##name(WITH(independent)), \
            (const uint64_t[]){__VA_ARGS__}, sizeof(const uint64_t[]){__VA_ARGS__} / sizeof(uint64_t))
 
+/* The same for a call that returns a count and refuses nothing. Gives the count. */
+#define COMPARE_COUNT(name, ...) \
+    settle_count(CALL_##name, pongulvesz_##name(WITH(archive)), independent_##name(WITH(independent)), \
+                 (const uint64_t[]){__VA_ARGS__}, sizeof(const uint64_t[]){__VA_ARGS__} / sizeof(uint64_t))
+
 #define SLICE(lent, side) (lent)->side, (lent)->length
 
-/* Compares number and lent octets, and stops the program where they differ, where the header does not list the number,
- * where a refused call wrote, or where an octet close to a slice has changed. The slices are no longer lent then; what
- * they had after the call stands in the independent program's copy until the next is lent. */
+/* Compares number and lent octets, and stops the program if they differ, if the header does not list the number, if a
+ * refused call wrote, or if an octet close to a slice has changed. Afterwards nothing is lent; what the slices had after
+ * the call stands in the independent program's copy until the next is lent. */
 uint32_t settle(enum call call, uint32_t archive, uint32_t independent, const uint64_t *given, size_t given_count);
+
+/* The same for counts. */
+size_t settle_count(enum call call, size_t archive, size_t independent, const uint64_t *given, size_t given_count);
 
 /* At the end of an input: at the first one and at each sixteenth after it all octets of the pages are looked at. */
 void check_pages(void);

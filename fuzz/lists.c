@@ -24,11 +24,10 @@ static size_t place_in_use(struct input *input, const struct state *state) {
 /* The uptime is about the end of the poll interval. */
 void try_list_ask(struct input *input, struct state *state) {
     size_t at = place_in_list(input, state), in_use = place_in_use(input, state);
-    const uint8_t *old = image_at(state, at);
     const struct lent *list = lend_list(input, state), *buffer = lend_buffer(input, PONGULVESZ_PACKET);
     uint32_t version = number_within(input, 1, 4);
     uint64_t clock = number_near(input, UINT64_C(1) << 32), token = number_near(input, clock);
-    uint64_t uptime = number_near(input, number_at(old + 24) + (UINT64_C(64) << old[3] % 9));
+    uint64_t uptime = number_near(input, interval_end(image_at(state, at)));
 #define WITH(side) SLICE(list, side), at, in_use, SLICE(buffer, side), version, clock, token, uptime
     uint32_t refusal = COMPARE(list_ask, at, in_use, version, clock, token, uptime);
 #undef WITH
@@ -43,7 +42,7 @@ void try_list_arrival(struct input *input, struct state *state) {
     size_t at = place_in_list(input, state), before = place_in_use(input, state);
     const struct lent *list = lend_list(input, state), *in_use = lend(&before, sizeof before);
     const struct lent *answer = lend(other, length_about(input, PONGULVESZ_ANSWER, sizeof other));
-    uint64_t t4 = number_near(input, number_at(image_at(state, at) + 8));
+    uint64_t t4 = number_near(input, pongulvesz_image_t1(image_at(state, at)));
     const struct lent *packet = lend_packet(input, state, REPLY, image_at(state, at));
 #define WITH(side) SLICE(list, side), at, in_use->side, SLICE(answer, side), t4, SLICE(packet, side)
     uint32_t refusal = COMPARE(list_arrival, at, t4);
@@ -60,7 +59,7 @@ void try_list_arrival(struct input *input, struct state *state) {
 void try_list_give_up(struct input *input, struct state *state) {
     size_t at = place_in_list(input, state), in_use = place_in_use(input, state);
     const struct lent *list = lend_list(input, state);
-    uint64_t uptime = number_near(input, number_at(image_at(state, at) + 24) + 16);
+    uint64_t uptime = number_near(input, pongulvesz_image_uptime(image_at(state, at)) + 16);
 #define WITH(side) SLICE(list, side), at, in_use, uptime
     COMPARE(list_give_up, at, in_use, uptime);
 #undef WITH

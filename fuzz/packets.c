@@ -58,8 +58,8 @@ static size_t put_tail(struct input *input, uint8_t *packet, size_t length) {
 /* No leap second, the version of the image's request, and the mode of the kind. */
 static uint8_t first_octet(enum packet_kind kind, const uint8_t *image) {
     static const uint8_t modes[] = {4, 3, 5};
-    uint8_t version = image[1] != 0 ? image[1] : 4;
-    return (uint8_t)(version << 3 | modes[kind]);
+    uint32_t version = pongulvesz_image_version(image);
+    return (uint8_t)((version != 0 ? version : 4) << 3 | modes[kind]);
 }
 
 /* What of the first octet is otherwise: all leap indicator bits, some of the mode, some of the version, or any. */
@@ -71,7 +71,7 @@ static uint8_t first_octet_change(struct input *input) {
 
 /* Originate, which is the image's token, and receive and transmit, which are about its T1. */
 static void put_times(struct input *input, int parts, const uint8_t *image, uint8_t *packet) {
-    uint64_t t1 = number_at(image + 8), originate = number_at(image + 16);
+    uint64_t t1 = pongulvesz_image_t1(image), originate = pongulvesz_image_token(image);
     uint64_t t2 = t1 != 0 ? t1 : 1, t3 = t2;
     if (parts & ORIGINATE)
         originate = number_near(input, originate);
@@ -124,4 +124,10 @@ const struct lent *lend_packet(struct input *input, struct state *state, enum pa
     default: *length = make_packet(input, kind, image, packet);
     }
     return lend(packet, *length);
+}
+
+void put_request(struct input *input, const uint8_t *image, uint8_t octets[PONGULVESZ_PACKET]) {
+    uint8_t packet[LONGEST_SLICE];
+    make_packet(input, REQUEST, image, packet);
+    memcpy(octets, packet, PONGULVESZ_PACKET);
 }

@@ -11,4 +11,7 @@ enum packet_kind { REPLY, REQUEST, BROADCAST };
  * the state's. */
 const struct lent *lend_packet(struct input *input, struct state *state, enum packet_kind kind, const uint8_t *image);
 
+/* Puts the 48 octets of a request, which passes all tests but those that the input breaks. */
+void put_request(struct input *input, const uint8_t *image, uint8_t octets[PONGULVESZ_PACKET]);
+
 #endif

@@ -1,6 +1,8 @@
 /* The server's reply, and broadcast. */
 #include "packets.h"
+#include "tally.h"
 #include "tries.h"
+#include <string.h>
 
 struct settings {
     uint32_t synchronised, leap;
@@ -33,6 +35,60 @@ void try_reply(struct input *input, struct state *state) {
 #undef WITH
     if (refusal == 0)
         keep_packet(state, buffer, PONGULVESZ_PACKET);
+}
+
+/* What a block is lent, with room for MOST_REQUESTS and one more, and the lengths, mostly those of count requests. */
+enum { MOST_REQUESTS = 5, ROOM = MOST_REQUESTS + 1 };
+
+struct block {
+    uint8_t requests[ROOM * PONGULVESZ_PACKET], replies[ROOM * PONGULVESZ_PACKET], numbers[ROOM];
+    uint64_t times[2 * ROOM];
+    size_t requests_length, times_length, replies_length, numbers_length;
+};
+
+static struct block take_block(struct input *input, const uint8_t *image) {
+    struct block block = {.times = {0}};
+    size_t count = 1 + octet(input) % MOST_REQUESTS;
+    memset(block.replies, 0x5A, sizeof block.replies);
+    memset(block.numbers, 0xD1, sizeof block.numbers);
+    block.requests_length = length_about(input, PONGULVESZ_PACKET * count, sizeof block.requests);
+    block.times_length = length_about(input, 2 * count, 2 * ROOM);
+    block.replies_length = length_about(input, PONGULVESZ_PACKET * count, sizeof block.replies);
+    block.numbers_length = length_about(input, count, ROOM);
+    for (size_t i = 0; i < ROOM; i++) {
+        put_request(input, image, block.requests + PONGULVESZ_PACKET * i);
+        block.times[2 * i] = number_near(input, UINT64_C(1) << 32);
+        block.times[2 * i + 1] = number_near(input, block.times[2 * i]);
+    }
+    return block;
+}
+
+/* The slice with the least room, the first if several have it. */
+static size_t least_room(const struct block *block) {
+    const size_t rooms[] = {block->requests_length / PONGULVESZ_PACKET, block->times_length / 2,
+                            block->replies_length / PONGULVESZ_PACKET, block->numbers_length};
+    size_t least = 0;
+    for (size_t i = 1; i < 4; i++)
+        if (rooms[i] < rooms[least])
+            least = i;
+    return least;
+}
+
+void try_reply_block(struct input *input, struct state *state) {
+    struct settings s = take_settings(input);
+    struct block block = take_block(input, image_at(state, 0));
+    const struct lent *requests = lend(block.requests, block.requests_length);
+    const struct lent *times = lend(block.times, 8 * block.times_length);
+    const struct lent *replies = lend(block.replies, block.replies_length);
+    const struct lent *numbers = lend(block.numbers, block.numbers_length);
+#define WITH(side) \
+    SETTINGS(s), SLICE(requests, side), times->side, block.times_length, SLICE(replies, side), SLICE(numbers, side)
+    size_t count = COMPARE_COUNT(reply_block, SHOWN_SETTINGS(s));
+#undef WITH
+    count_told(CALL_reply_block, least_room(&block));
+    const uint8_t *given = numbers->independent;
+    for (size_t i = 0; i < count; i++)
+        count_number(CALL_reply_block, given[i]);
 }
 
 void try_broadcast(struct input *input, struct state *state) {

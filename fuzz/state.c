@@ -20,6 +20,10 @@ const uint8_t *image_at(const struct state *state, size_t at) {
     return state->images + offset_of(at);
 }
 
+uint64_t interval_end(const uint8_t *image) {
+    return pongulvesz_image_uptime(image) + (UINT64_C(1) << pongulvesz_image_exponent(image) % 16);
+}
+
 uint64_t number_at(const uint8_t *octets) {
     struct input input = {octets, 8};
     return number(&input, 8);
@@ -30,6 +34,14 @@ void put_number(uint8_t *octets, uint64_t n) {
         octets[i] = (uint8_t)(n >> (56 - 8 * i));
 }
 
+/* An uptime of a last ask: about the state's timestamp, or about the last from which a give-up or an ask is ever due. */
+static uint64_t take_uptime(struct input *input, const struct state *state, uint32_t exponent) {
+    const uint64_t uptimes[] = {state->timestamp, UINT64_MAX - 16, UINT64_MAX - (UINT64_C(1) << exponent)};
+    const uint64_t about = uptimes[octet(input) % 3];
+    return number_near(input, about);
+}
+
+/* docs/C.md, "Layouts", has the octets. */
 void set_image(struct input *input, struct state *state) {
     uint8_t counts = octet(input);
     state->image_count = counts % (MOST_IMAGES + 1);
@@ -39,12 +51,12 @@ void set_image(struct input *input, struct state *state) {
     image[0] = octet(input) % 3;
     image[2] = 1;
     image[3] = octet(input) % 9;
-    put_number(image + 24, number_near(input, state->timestamp));
-    if (image[0] != 1)
+    put_number(image + 24, take_uptime(input, state, pongulvesz_image_exponent(image)));
+    if (pongulvesz_image_phase(image) != PONGULVESZ_WAITING)
         return;
     image[1] = (uint8_t)(1 + octet(input) % 4);
     put_number(image + 8, number_near(input, UINT64_C(1) << 32));
-    put_number(image + 16, number_near(input, number_at(image + 8)));
+    put_number(image + 16, number_near(input, pongulvesz_image_t1(image)));
 }
 
 static void take_octets(struct input *input, uint8_t *octets, size_t length) {

@@ -24,8 +24,11 @@ struct state begin(void);
 /* Sets an image, to a legal one mostly, how many there are, and which is in use. */
 void set_image(struct input *input, struct state *state);
 
-/* The image of the record of a number. In an image T1 stands from octet 8 on, the token from 16, the uptime from 24. */
+/* The image of the record of a number. */
 const uint8_t *image_at(const struct state *state, size_t at);
+
+/* The uptime at which the poll interval of a legal image ends. */
+uint64_t interval_end(const uint8_t *image);
 
 /* A number of eight octets, big-endian. */
 uint64_t number_at(const uint8_t *octets);

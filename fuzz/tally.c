@@ -49,7 +49,7 @@ void count_told(enum call call, size_t what) {
 }
 
 void count_answer(enum call call, const uint8_t *answer) {
-    count_told(call, answer[0] == PONGULVESZ_ACCEPTED ? ACCEPTED : answer[2]);
+    count_told(call, pongulvesz_answer_kind(answer) == PONGULVESZ_ACCEPTED ? ACCEPTED : pongulvesz_answer_row(answer));
 }
 
 static void print_count(uint64_t count) {
@@ -75,6 +75,14 @@ static void print_arrivals(enum call call) {
     print_count(told[call][ACCEPTED]);
 }
 
+static void print_least_room(enum call call) {
+    static const char *const slices[] = {"requests", "times", "replies", "numbers"};
+    for (size_t i = 0; i < 4; i++) {
+        printf(", least room in %s", slices[i]);
+        print_count(told[call][i]);
+    }
+}
+
 static void print_told(enum call call) {
     if (call == CALL_arrival || call == CALL_list_arrival)
         print_arrivals(call);
@@ -84,6 +92,8 @@ static void print_told(enum call call) {
         printf(", use went back");
         print_count(told[call][USE_WENT_BACK]);
     }
+    if (call == CALL_reply_block)
+        print_least_room(call);
     if (call == CALL_next_field) {
         printf(", none left");
         print_count(told[call][0]);

@@ -15,7 +15,8 @@ int can_give(enum call call, uint32_t number);
 void count_number(enum call call, uint32_t number);
 
 /* What a call told that gave 0: of an arrival the row of its kiss or ACCEPTED, for a list besides whether the number in
- * use went on or, past the end of the list, back; of a next field 1 where one was found, else 0. */
+ * use went on or, past the end of the list, back; of a next field 1 if one was found, else 0; of a block which slice has
+ * the least room, 0 to 3 in the order of its arguments. */
 enum { KISS_ROWS = 15, ACCEPTED = KISS_ROWS, USE_WENT_ON, USE_WENT_BACK, TOLD_COUNT };
 void count_told(enum call call, size_t told);
 

@@ -7,6 +7,6 @@ uint32_t pongulvesz_arrival(uint8_t *image, size_t image_length, uint8_t *answer
     uint8_t copy[1040];
     memcpy(copy, packet, packet_length);
     if (packet_length >= 48 && image_length == 32 && packet[1] == 0)
-        copy[31] = image[23];
+        copy[31] = (uint8_t)pongulvesz_image_token(image);
     return right_arrival(image, image_length, answer, answer_length, t4, alternate, copy, packet_length);
 }

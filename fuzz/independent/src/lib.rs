@@ -11,9 +11,11 @@
 )]
 
 mod client;
+mod due;
 mod fields;
 mod ledger;
 mod list;
+mod packets;
 mod server;
 mod times;
 

@@ -1,8 +1,9 @@
-//! The server's reply, and broadcast.
+//! The server's reply, a block of replies, and broadcast.
 
 use crate::{lent, lent_mut, written};
 use reference::firmware::{self, WideSettings, narrow};
-use reference::{broadcast, refusal};
+use reference::{broadcast, packet, refusal};
+use std::slice;
 
 #[unsafe(no_mangle)]
 pub unsafe extern "C" fn independent_reply(
@@ -23,6 +24,38 @@ pub unsafe extern "C" fn independent_reply(
     let buffer = unsafe { lent_mut(buffer, buffer_length) };
     let request = unsafe { lent(request, request_length) };
     firmware::reply(&settings, t2, t3, request, buffer).into()
+}
+
+/// Each request, its two times, the octets of its reply and that of its number stand side by side;
+/// the first of the four slices that has no more of them ends the block.
+#[unsafe(no_mangle)]
+pub unsafe extern "C" fn independent_reply_block(
+    synchronised: u32,
+    leap: u32,
+    precision: i32,
+    identifier: u32,
+    reference: u64,
+    requests: *const u8,
+    requests_length: usize,
+    times: *const u64,
+    times_length: usize,
+    replies: *mut u8,
+    replies_length: usize,
+    numbers: *mut u8,
+    numbers_length: usize,
+) -> usize {
+    let identifier = identifier.to_be_bytes();
+    let settings = WideSettings { synchronised, leap, precision, identifier, reference };
+    let requests = unsafe { lent(requests, requests_length) }.chunks_exact(packet::LENGTH);
+    let times = unsafe { slice::from_raw_parts(times, times_length) }.chunks_exact(2);
+    let replies = unsafe { lent_mut(replies, replies_length) }.chunks_exact_mut(packet::LENGTH);
+    let numbers = unsafe { lent_mut(numbers, numbers_length) };
+    let block = requests.zip(times).zip(replies).zip(numbers);
+    block
+        .map(|(((request, times), reply), number)| {
+            *number = firmware::reply(&settings, times[0], times[1], request, reply);
+        })
+        .count()
 }
 
 #[unsafe(no_mangle)]
