@@ -1,10 +1,11 @@
 //! SNTP packets, the client's calls and the server's reply, in plain Rust.
 
-#![forbid(unsafe_code)]
+#![deny(unsafe_code)]
 
 pub mod arrival;
+pub mod c_calls;
+pub mod c_entry;
 pub mod client;
-pub mod client_block;
 pub mod extension;
 pub mod kiss;
 pub mod packet;

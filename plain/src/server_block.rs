@@ -7,7 +7,7 @@ use crate::timestamp::Timestamp;
 
 /// Answers as many requests as all four slices have room for and returns their count.
 /// `times` has the receive and the transmit timestamp of each request side by side.
-#[inline(never)]
+#[inline(always)]
 pub fn reply_block(
     settings: &Settings,
     requests: &[u8],

@@ -1,14 +1,14 @@
 //! The client's calls: compared, then timed.
 
 use plain_sntp::arrival::Arrival;
-use plain_sntp::client_block;
 use plain_sntp::packet::LENGTH;
 use plain_sntp::refusal::Refusal;
 use plain_sntp::timestamp::Timestamp;
 
-use super::archive;
+use super::calls::{PLAIN, PROVED};
+use super::client_blocks;
 use super::difference::{Difference, compare, compare_whole};
-use super::measure::{Side, Times, measure};
+use super::measure::{LONG, Side, Times, measure};
 use super::replies::{self, ClientBlock};
 use super::table::{Table, count};
 
@@ -21,9 +21,6 @@ const HEADER: [&str; 7] = [
     "10 %",
     "90 %",
 ];
-
-const PLAIN: usize = 0;
-const PROVED: usize = 1;
 
 struct Call {
     name: &'static str,
@@ -38,32 +35,22 @@ const CALLS: [Call; 6] = [
     Call {
         name: "read",
         block: replies::to_read,
-        plain: |block| client_block::read_block(&block.packets),
-        proved: |block| archive::read_block(&block.packets),
+        plain: |block| client_blocks::read(block, &PLAIN),
+        proved: |block| client_blocks::read(block, &PROVED),
         as_named: |_, _| true,
     },
     Call {
         name: "write",
         block: replies::to_write,
-        plain: |block| {
-            client_block::write_block(&block.fields, &block.times, &mut block.packets) as u64
-        },
-        proved: |block| {
-            archive::write_block(&block.fields, &block.times, &mut block.packets) as u64
-        },
+        plain: |block| client_blocks::write(block, &PLAIN),
+        proved: |block| client_blocks::write(block, &PROVED),
         as_named: |_, _| true,
     },
     Call {
         name: "ask",
         block: replies::to_ask,
-        plain: |block| {
-            let (version, uptime) = (block.client.request.version, block.client.uptime);
-            client_block::ask_block(version, uptime, &block.times, &mut block.packets)
-        },
-        proved: |block| {
-            let (version, uptime) = (block.client.request.version, block.client.uptime);
-            archive::ask_block(version, uptime, &block.times, &mut block.packets)
-        },
+        plain: |block| client_blocks::ask(block, &PLAIN),
+        proved: |block| client_blocks::ask(block, &PROVED),
         as_named: |_, _| true,
     },
     Call {
@@ -113,7 +100,8 @@ fn run(call: &Call, size: usize, rounds: usize) -> Result<Times, Difference> {
         &mut block,
         size,
         rounds,
-        &[call.plain, call.proved],
+        LONG,
+        &[call.proved, call.plain],
     ))
 }
 
@@ -152,11 +140,11 @@ fn compare_blocks(cell: &str, call: &Call, block: &ClientBlock) -> Result<(), Di
 }
 
 fn arrivals_plain(block: &mut ClientBlock) -> u64 {
-    client_block::arrival_block(&block.client, block.alternate, &block.times, &block.packets)
+    client_blocks::arrival(block, &PLAIN)
 }
 
 fn arrivals_proved(block: &mut ClientBlock) -> u64 {
-    archive::arrival_block(&block.client, block.alternate, &block.times, &block.packets)
+    client_blocks::arrival(block, &PROVED)
 }
 
 fn answer(block: &ClientBlock, place: usize) -> Result<Arrival, Refusal> {
@@ -167,14 +155,7 @@ fn answer(block: &ClientBlock, place: usize) -> Result<Arrival, Refusal> {
 }
 
 fn row(name: &str, size: usize, times: &Times) -> Vec<String> {
-    let (low, high) = times.spread(PROVED, PLAIN);
-    vec![
-        name.to_string(),
-        count(size),
-        format!("{:.2}", times.least(PROVED)),
-        format!("{:.2}", times.least(PLAIN)),
-        format!("{:.2}", times.ratio(PROVED, PLAIN)),
-        format!("{low:.2}"),
-        format!("{high:.2}"),
-    ]
+    let mut row = vec![name.to_string(), count(size)];
+    row.extend(times.compared(0, 1));
+    row
 }

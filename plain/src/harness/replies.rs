@@ -1,5 +1,6 @@
 //! Blocks of packets, clock readings and tokens for the client's calls.
 
+use plain_sntp::c_calls::{self, FIELDS};
 use plain_sntp::client::{Client, EXPONENT_LEAST, Phase, Request};
 use plain_sntp::packet::{Fields, LENGTH, MODE_SERVER};
 use plain_sntp::timestamp::Timestamp;
@@ -18,7 +19,7 @@ pub struct ClientBlock {
     pub client: Client,
     pub alternate: bool,
     /// What is written but for the transmit timestamp.
-    pub fields: Fields,
+    pub fields: [u64; FIELDS],
     /// Arrivals, transmit timestamps, or clock readings and tokens.
     pub times: Vec<u64>,
     pub packets: Vec<u8>,
@@ -43,7 +44,7 @@ impl ClientBlock {
         Self {
             client: waiting(generator),
             alternate: false,
-            fields: server_fields(generator),
+            fields: c_calls::numbers(&server_fields(generator)),
             times: Vec::new(),
             packets: Vec::new(),
         }
