@@ -13,9 +13,9 @@ use Rattle.ordered_tests.specs.Tests as tests
 use Rattle.client.specs.declared.Client.{Client}
 use Rattle.client.specs.Record.{fresh}
 use Rattle.client.specs.Calls as calls
-use Rattle.in_use.specs.InUse as rules
+use Rattle.association_rules.specs.InUse as rules
 use Rattle.association_rules.specs.Associations.{anyIllegal, listTests, association, alternate, askedFor, listAfterAsk, bufferAfterAsk, gaveUpFor, listAfterGiveUp, arrivedAt, arrivedFor, listAfterArrival}
-use Rattle.in_use.specs.InUse.{outside, exists}
+use Rattle.association_rules.specs.InUse.{outside, exists}
 use Rattle.client.specs.declared.CallAnswer.{CallAnswer}
 use Rattle.reply_checks.specs.declared.ArrivalAnswer.{ArrivalAnswer}
 use Rattle.client.specs.Ask.{afterAsk}

@@ -16,9 +16,9 @@ use Rattle.client.specs.Record.{fresh}
 use Rattle.client.specs.Ask.{waitingFor}
 use Rattle.client.specs.Calls as calls
 use Rattle.server.specs.declared.ReplyAnswer.{ReplyAnswer}
-use Rattle.in_use.specs.declared.Alternate.{Alternate}
+use Rattle.association_rules.specs.declared.Alternate.{Alternate}
 use Rattle.association_rules.specs.Associations.{association, alternate}
-use Rattle.in_use.specs.InUse.{exists}
+use Rattle.association_rules.specs.InUse.{exists}
 use Rattle.association_rules.proofs.Alternates.{alternates}
 use Rattle.demands.specs.Legal.{Legal}
 use Rattle.demands.specs.Client.{callRules}

@@ -21,9 +21,9 @@ use Rattle.client.specs.Record.{fresh, illegal}
 use Rattle.client.specs.Ask.{askTests, afterAsk}
 use Rattle.client.specs.Arrival.{arrivalAnswer, arrived}
 use Rattle.client.specs.Calls as calls
-use Rattle.in_use.specs.declared.Alternate.{Alternate}
+use Rattle.association_rules.specs.declared.Alternate.{Alternate}
 use Rattle.association_rules.specs.Associations.{anyIllegal, association, firstRunning, alternate, askedFor, listAfterAsk, arrivedFor, listAfterArrival}
-use Rattle.in_use.specs.InUse.{outside, exists}
+use Rattle.association_rules.specs.InUse.{outside, exists}
 use Rattle.association_rules.proofs.Alternates.{alternates}
 use Rattle.demands.specs.Client.{callRules}
 use Rattle.demands.specs.Behaviour.{ours}

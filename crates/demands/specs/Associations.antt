@@ -7,9 +7,9 @@ use Rattle.refusals.specs.Numbers.{not-in-list, record-not-legal}
 use Rattle.timestamp.specs.declared.Timestamp.{Timestamp}
 use Rattle.client.specs.declared.Client.{Client}
 use Rattle.client.specs.Calls as calls
-use Rattle.in_use.specs.declared.Alternate.{Alternate}
+use Rattle.association_rules.specs.declared.Alternate.{Alternate}
 use Rattle.association_rules.specs.Associations.{association, alternate, askedFor, listAfterAsk, bufferAfterAsk, gaveUpFor, listAfterGiveUp, arrivedFor, listAfterArrival}
-use Rattle.in_use.specs.InUse.{exists, useAfterKiss}
+use Rattle.association_rules.specs.InUse.{exists, useAfterKiss}
 use Rattle.demands.specs.Form.{_unless_then_, Form, Implementation}
 use Rattle.demands.specs.Wrapper.{mapRules}
 use Rattle.demands.specs.Legal.{Legal}

@@ -40,7 +40,7 @@ use Rattle.reply_checks.specs.Checks.{waitingTests, checkTests}
 use Rattle.client.specs.GiveUp.{gaveUp, giveUpTests}
 use Rattle.client.specs.Calls.{Call, ask, arrival, giveUp, Result, refused, done, accepted, kiss, Outcome}
 use Rattle.association_rules.specs.Associations.{anyIllegal, firstRunning, arrivedFor, listAfterArrival}
-use Rattle.in_use.specs.InUse.{outside}
+use Rattle.association_rules.specs.InUse.{outside}
 use Rattle.kiss.specs.Kiss.{rowOf}
 use Rattle.broadcast.specs.Broadcast.{broadcastArrived, fieldTests}
 use Rattle.server.specs.declared.ReplyAnswer.{ReplyAnswer}
