@@ -1,4 +1,6 @@
 // What a call for one of a gateway's associations does. All rules stand here, over records by value; the crate `associations` has the calls over a lent list.
+#![tactic(auto)]
+
 mod calls;
 mod in_use;
 mod list_tests;

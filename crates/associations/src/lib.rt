@@ -1,5 +1,7 @@
 // A gateway's associations: the calls for one record of a lent list (docs/RULES.md, "Associations"). The rules stand in the crate `association_rules`: a
 // call reads the list into a table, lets the table decide, and stores the one record that changes.
+#![tactic(auto)]
+
 ghost use Rattle.std.specs.Prelude.{◌≡◌, length, get_or, set};
 ghost use Rattle.association_rules.specs.Associations.{association, asked_for, list_after_ask, buffer_after_ask, arrived_for, list_after_arrival, gave_up_for, list_after_give_up};
 ghost use Rattle.association_rules.specs.Table.{standing_of, table_of};

@@ -1,4 +1,6 @@
 // The calls of the crate `associations` for a caller that has its records by value, as the calls for C have: the list is the first `count` of eight records.
+#![tactic(auto)]
+
 ghost use Rattle.std.specs.Prelude.{◌≡◌, ◌++◌, ◌≤◌, ◌<◌, min, length, take, drop, get_or};
 ghost use Rattle.client.specs.Record.{fresh};
 ghost use Rattle.association_rules.specs.Associations.{asked_for, list_after_ask, buffer_after_ask, arrived_for, list_after_arrival, gave_up_for, list_after_give_up};

@@ -1,4 +1,6 @@
 // Broadcast (RFC 4330, sections 5 and 6): the packet of a broadcast server, and its client, which sends no request and measures no delay. Both keep nothing.
+#![tactic(auto)]
+
 ghost use Rattle.std.specs.Prelude.{◌≡◌, ◌≤◌, ◌++◌, length, drop};
 ghost use Rattle.ordered_tests.specs.Tests.{number, answer, kept};
 ghost use Rattle.packet.specs.Packet.{packet_length, octets_of};

@@ -1,4 +1,6 @@
 // Dates of timestamps, and timestamps of dates (docs/RULES.md, "The calendar").
+#![tactic(auto)]
+
 ghost use Rattle.std.specs.Prelude.{◌≡◌, true, ◌+◌, ◌*◌, ◌^◌, ◌≤◌, ◌<◌};
 ghost use Rattle.refusals.specs.Numbers.{timestamp_zero};
 ghost use Rattle.ordered_tests.specs.Tests.{◌if◌else◌, otherwise, answer};

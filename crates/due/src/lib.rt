@@ -1,4 +1,6 @@
 // When a call of a client's record is due: the first uptime at which it is not refused as too soon. A caller's loop can sleep until then.
+#![tactic(auto)]
+
 ghost use Rattle.std.specs.Prelude.{◌≡◌};
 ghost use Rattle.ordered_tests.specs.Tests.{answer};
 ghost use Rattle.due.specs.declared.Due.TheVariants.{Refused};

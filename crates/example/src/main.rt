@@ -1,5 +1,7 @@
 // An example of the library's use: our client and our server at an exchange across 2036, a give-up, a kiss and refusals, also of a record that is not legal. Each
 // call writes a line.
+#![tactic(auto)]
+
 mod calls;
 mod print;
 

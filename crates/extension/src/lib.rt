@@ -1,4 +1,6 @@
 // The extension fields of a packet (RFC 7822), and what reads them. They stand past its 48th octet; an authenticator may stand behind them, and is not read.
+#![tactic(auto)]
+
 ghost use Rattle.std.specs.Prelude.{◌≡◌, ◌-◌, length, drop};
 ghost use Rattle.arithmetic.specs.Octets.{part};
 ghost use Rattle.extension.specs.Reading.{ends_fields, is_field_length, after_fields, is_malformed};

@@ -1,4 +1,6 @@
 // An extension field (RFC 7822) added at the end of a packet.
+#![tactic(auto)]
+
 ghost use Rattle.std.specs.Prelude.{◌≡◌, ◌+◌, ◌≤◌, length};
 ghost use Rattle.std.proofs.lemmas.List.Edits.{sets};
 ghost use Rattle.ordered_tests.specs.Tests.{number};

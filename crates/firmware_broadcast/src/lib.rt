@@ -1,4 +1,6 @@
 // Broadcast for C (docs/C.md). Of a refusal the number is all: what a call would write stays as it was.
+#![tactic(auto)]
+
 ghost use Rattle.std.specs.Prelude.{◌≡◌, length};
 ghost use Rattle.timestamp.specs.Timestamp as timestamps;
 ghost use Rattle.broadcast.specs.Broadcast.{broadcast_arrived};

@@ -1,4 +1,6 @@
 // Dates for C (docs/C.md). Of a refusal the number is all: what a call would write stays as it was.
+#![tactic(auto)]
+
 ghost use Rattle.std.specs.Prelude.{◌≡◌};
 ghost use Rattle.timestamp.specs.Timestamp as timestamps;
 ghost use Rattle.calendar.specs.Dates.{date};

@@ -1,4 +1,6 @@
 // When a client's call on an image is due, for C (docs/C.md). A refused call returns its number and writes nothing.
+#![tactic(auto)]
+
 ghost use Rattle.std.specs.Prelude.{◌≡◌};
 ghost use Rattle.firmware_due.specs.Due.{ask_due, give_up_due, number_of, uptime_after};
 

@@ -1,4 +1,6 @@
 // Extension fields for C (docs/C.md). Of a refusal the number is all: what a call would write stays as it was.
+#![tactic(auto)]
+
 ghost use Rattle.std.specs.Prelude.{◌≡◌};
 ghost use Rattle.extension.specs.Reader as reader;
 ghost use Rattle.firmware_fields.specs.Fields.{begin_number, cursor_after, next_number, numbers, numbers_after, add_number, add_answer, size_after, buffer_after};

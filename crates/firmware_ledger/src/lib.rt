@@ -1,4 +1,6 @@
 // The ledger for C (docs/C.md): the record is its debt. Of a refusal the number is all: what a call would write stays as it was.
+#![tactic(auto)]
+
 ghost use Rattle.std.specs.Prelude.{◌≡◌};
 ghost use Rattle.ledger.specs.Ledger.{number_in_entry, number_in_tick};
 ghost use Rattle.firmware_ledger.specs.Ledger.{entry_of, tick_of, paid_after};

@@ -1,4 +1,6 @@
 // Timestamps and the fields of a packet for C (docs/C.md). A refused call returns its number and writes nothing.
+#![tactic(auto)]
+
 ghost use Rattle.std.specs.Prelude.{◌≡◌, false};
 ghost use Rattle.timestamp.specs.Timestamp as timestamps;
 ghost use Rattle.timestamp.specs.Timestamp.{ordered, ◌since◌};

@@ -1,4 +1,6 @@
 // Unix time, the Time Protocol and the precision octet for C (docs/C.md). Of a refusal the number is all: what a call would write stays as it was.
+#![tactic(auto)]
+
 ghost use Rattle.std.specs.Prelude.{◌≡◌};
 ghost use Rattle.timestamp.specs.Timestamp as timestamps;
 ghost use Rattle.unix_time.specs.UnixTime.{unix_time_of, timestamp_of};

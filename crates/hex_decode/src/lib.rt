@@ -1,4 +1,6 @@
 // Lines of hexadecimal: characters to octets, as they come in.
+#![tactic(auto)]
+
 ghost use Rattle.std.specs.Prelude.{◌≡◌, ◌<◌};
 ghost use Rattle.hex_decode.specs.Lines.{digit_of, is_digit, start, refused, paired, paired_buffer, pushed, pushed_buffer, is_complete, has_begun};
 ghost use Rattle.hex_decode.specs.Decoding.{in_line, pushed_line, pushed_line_buffer};

@@ -1,4 +1,6 @@
 // Octets as a line of hexadecimal: two digits an octet, in upper case, and a line feed.
+#![tactic(auto)]
+
 ghost use Rattle.std.specs.Prelude.{◌≡◌, ◌+◌, ◌≤◌, [], ◌∷◌, length};
 ghost use Rattle.std.proofs.lemmas.List.Edits.{sets};
 ghost use Rattle.hex_encode.specs.Text.{character_of, digits, put_line, put_line_at};

@@ -1,4 +1,6 @@
 // Kiss codes: the reference identifier of a reply of stratum 0 (RFC 4330, section 8).
+#![tactic(auto)]
+
 ghost use Rattle.std.specs.Prelude.{◌≡◌};
 ghost use Rattle.kiss.specs.Kiss.{code_of, names, codes, row_in, row_of};
 

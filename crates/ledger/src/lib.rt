@@ -4,6 +4,8 @@
 // exchange would measure the same difference again, and it would be owed twice. After an accepted offset of 5 with half 1 the entry is 11 half units, and
 // the caller hands the client its clock's reading plus 5 units. After a tick that paid 4 half units the clock is 2 units further and 7 half units are
 // still owed: the caller adds 3 units, and the reading is the same.
+#![tactic(auto)]
+
 ghost use Rattle.std.specs.Prelude.{◌≡◌, not, ◌^◌, ◌≤◌, ◌<◌, min, ◌+ℤ◌, ◌-ℤ◌, nat_abs};
 ghost use Rattle.ordered_tests.specs.Tests.{between};
 ghost use Rattle.ledger.specs.Ledger.{opened, half_units, is_debt_too_large, is_entry_too_large, refused_entry, entered, payment, refused_tick, ticked};

@@ -1,4 +1,6 @@
 // The order of a number's octets, in code.
+#![tactic(auto)]
+
 ghost use Rattle.std.specs.Prelude.{◌≡◌, [], ◌∷◌, reverse, ◌+◌, ◌*◌, ◌^◌};
 ghost use Rattle.arithmetic.specs.Octets.{big_endian, octets};
 

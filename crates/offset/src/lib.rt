@@ -1,4 +1,6 @@
 // The clock offset of four timestamps: T1 sent, T2 received, T3 answered, T4 arrived.
+#![tactic(auto)]
+
 ghost use Rattle.std.specs.Prelude.{◌≡◌, ◌+ℤ◌};
 ghost use Rattle.offset.specs.Offset.{halves, measured};
 

@@ -1,4 +1,6 @@
 // Tests in order: in code a table is `if test { return NUMBER; }` a test, in the table's order, and 0 at the end. specs/Tests.antt says what a table gives.
+#![tactic(auto)]
+
 ghost use Rattle.std.specs.Prelude.{◌≡◌};
 ghost use Rattle.ordered_tests.specs.Tests.{between};
 

@@ -1,4 +1,6 @@
 // Uptimes and the poll interval.
+#![tactic(auto)]
+
 ghost use Rattle.std.specs.Prelude.{◌≡◌, ◌^◌};
 ghost use Rattle.poll.specs.Poll.{too_soon, backed_off};
 

@@ -1,4 +1,6 @@
 // The precision octet of a clock's tick (docs/RULES.md, "The 48 octets").
+#![tactic(auto)]
+
 ghost use Rattle.std.specs.Prelude.{◌≡◌, ◌≤◌, pos, ◌-ℤ◌};
 ghost use Rattle.precision.specs.Precision.{precision_of};
 

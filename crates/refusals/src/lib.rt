@@ -1,4 +1,6 @@
 // The numbers that a caller may see. Each has one name here and the same name in specs/Numbers.antt; `numbers` ties the two.
+#![tactic(auto)]
+
 ghost use Rattle.std.specs.Prelude.{◌≡◌};
 ghost use Rattle.refusals.specs.Numbers.{numbers};
 

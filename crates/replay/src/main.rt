@@ -1,4 +1,6 @@
 // Replays the lines of standard input through the client, and writes the answers to standard output as they come.
+#![tactic(auto)]
+
 ghost use Rattle.std.specs.Prelude.{◌≤◌, length};
 ghost use Rattle.replay_lines.specs.Feed.{longest_line};
 

@@ -1,4 +1,6 @@
 // Replies of the server to requests that stand one after another, 48 octets each.
+#![tactic(auto)]
+
 ghost use Rattle.std.specs.Prelude.{◌≡◌, ◌+◌, ◌*◌, ◌/◌, ◌<◌, min, ◌++◌, set, take, drop};
 ghost use Rattle.timestamp.specs.Timestamp.{timestamp};
 ghost use Rattle.packet.specs.Packet.{packet_length};

@@ -1,4 +1,6 @@
 // The checks of a server's reply to the request that was sent at T1 with this token and version (RFC 4330, section 5).
+#![tactic(auto)]
+
 ghost use Rattle.std.specs.Prelude.{◌≡◌};
 ghost use Rattle.ordered_tests.specs.Tests.{number, answer, pass};
 ghost use Rattle.reply_checks.specs.declared.ArrivalAnswer.{ArrivalAnswer};

@@ -1,4 +1,6 @@
 // The client's request (RFC 4330, section 5).
+#![tactic(auto)]
+
 ghost use Rattle.std.specs.Prelude.{◌≡◌};
 ghost use Rattle.packet.specs.Packet.{write_answer, written};
 ghost use Rattle.request.specs.Request.{request_fields};

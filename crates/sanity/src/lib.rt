@@ -1,4 +1,6 @@
 // The sanity checks of a server's reply that need no record of the request (RFC 4330, section 5).
+#![tactic(auto)]
+
 ghost use Rattle.std.specs.Prelude.{◌≡◌};
 ghost use Rattle.ordered_tests.specs.Tests.{number, pass};
 ghost use Rattle.sanity.specs.Sanity.{header_tests, is_root_delay_out_of_range, is_root_dispersion_too_large, root_tests};

@@ -1,4 +1,6 @@
 // The SNTP server for unicast exchanges (RFC 4330, section 6). It keeps nothing.
+#![tactic(auto)]
+
 ghost use Rattle.std.specs.Prelude.{◌≡◌, ◌≤◌, not, ◌||◌, ◌++◌, length, drop};
 ghost use Rattle.ordered_tests.specs.Tests.{number, answer, kept};
 ghost use Rattle.timestamp.specs.Timestamp.{◌since◌, has_no_order, negative};

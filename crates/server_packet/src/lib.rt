@@ -1,4 +1,6 @@
 // The packet of a server, in a reply and in broadcast: what it has of the server's settings (RFC 4330, sections 4 and 6).
+#![tactic(auto)]
+
 ghost use Rattle.std.specs.Prelude.{◌≡◌};
 ghost use Rattle.packet.specs.Packet.{written};
 ghost use Rattle.server_packet.specs.Packet.{out_of_range, packet_with, synchronised_fields, unsynchronised_fields, packet_fields};

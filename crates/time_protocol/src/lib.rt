@@ -1,4 +1,6 @@
 // The Time Protocol of RFC 868: a count of seconds in four octets (docs/RULES.md, "The Time Protocol").
+#![tactic(auto)]
+
 ghost use Rattle.std.specs.Prelude.{◌≡◌};
 ghost use Rattle.time_protocol.specs.TimeProtocol.{write_answer, written, read_answer};
 

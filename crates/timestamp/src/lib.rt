@@ -1,4 +1,6 @@
 // A timestamp: 32 bits of seconds and 32 of fraction, so that one unit is 2^-32 s.
+#![tactic(auto)]
+
 ghost use Rattle.std.specs.Prelude.{◌≡◌};
 ghost use Rattle.timestamp.specs.Timestamp.{timestamp, from_seconds, seconds_of, fraction_of, constants, is_zero, ◌since◌, ordered};
 

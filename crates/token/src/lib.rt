@@ -1,5 +1,7 @@
 // The token of a request: 64 bits of the caller's choice, which the request carries in its transmit field and its reply in the originate field.
 // It is no clock reading, and its type keeps it from the arithmetic of timestamps.
+#![tactic(auto)]
+
 ghost use Rattle.std.specs.Prelude.{◌≡◌};
 ghost use Rattle.token.specs.Token.{is_zero_token, carried};
 

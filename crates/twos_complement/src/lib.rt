@@ -1,4 +1,6 @@
 // Two's complement, in code.
+#![tactic(auto)]
+
 ghost use Rattle.std.specs.Prelude.{◌≡◌};
 ghost use Rattle.arithmetic.specs.TwosComplement.{signed, bits};
 

@@ -1,4 +1,6 @@
 // Unix times of timestamps, and timestamps of Unix times (docs/RULES.md, "Unix time").
+#![tactic(auto)]
+
 ghost use Rattle.std.specs.Prelude.{◌≡◌, true, ◌^◌, ◌<◌, nat_abs};
 ghost use Rattle.calendar.specs.Calendar.{seconds_at, era_seconds};
 ghost use Rattle.unix_time.specs.UnixTime.{unix_second, nanoseconds_of, unix_time_of, from_year0, inside, fraction_above, timestamp_of};
