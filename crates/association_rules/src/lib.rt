@@ -11,7 +11,7 @@ use client::{CallAnswer, Client};
 use reply_checks::ArrivalAnswer;
 
 // Whether a record is illegal, and whether it is stopped.
-#[derive(Drop)]
+#[derive(Clone, Copy)]
 pub struct Standing {
     pub illegal: bool,
     pub stopped: bool,
@@ -19,7 +19,7 @@ pub struct Standing {
 
 // What a call needs of a list: how many records it has, the one that the call is for, whether each of the first eight is stopped, no for one past the end, and
 // whether one of the eight is illegal.
-#[derive(Drop)]
+#[derive(Clone, Copy)]
 pub struct Table {
     pub count: usize,
     pub called: Client,
@@ -28,35 +28,35 @@ pub struct Table {
 }
 
 // The number of the alternate, if there is one.
-#[derive(Drop)]
+#[derive(Clone, Copy)]
 pub enum Alternate {
     None,
     Record(usize),
 }
 
 // What an ask or a give-up for one record answers, with the number in use after it.
-#[derive(Drop)]
+#[derive(Clone, Copy)]
 pub struct ListCalled {
     pub answer: CallAnswer,
     pub in_use: usize,
 }
 
 // What an arrival for one record answers, with the number in use after it.
-#[derive(Drop)]
+#[derive(Clone, Copy)]
 pub struct ListArrived {
     pub answer: ArrivalAnswer,
     pub in_use: usize,
 }
 
 // What a call gives the caller, and the record that it stores in the list at a number. Past the end of the list nothing is stored.
-#[derive(Drop)]
+#[derive(Clone, Copy)]
 pub struct CallEffect {
     pub result: ListCalled,
     pub at: usize,
     pub client: Client,
 }
 
-#[derive(Drop)]
+#[derive(Clone, Copy)]
 pub struct ArrivalEffect {
     pub result: ListArrived,
     pub at: usize,

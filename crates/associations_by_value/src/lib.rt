@@ -12,13 +12,13 @@ use timestamp::Timestamp;
 use token::Token;
 
 // What a call gives, with the record that it was for after it.
-#[derive(Drop)]
+#[derive(Clone, Copy)]
 pub struct CalledByValue {
     pub result: ListCalled,
     pub client: Client,
 }
 
-#[derive(Drop)]
+#[derive(Clone, Copy)]
 pub struct ArrivedByValue {
     pub result: ListArrived,
     pub client: Client,

@@ -12,7 +12,7 @@ use server_packet::{Message, Settings, out_of_range};
 use timestamp::{Difference, Timestamp};
 
 // The difference of T3 and T4: how far the server's clock is ahead, less the time that the packet travelled.
-#[derive(Drop)]
+#[derive(Clone, Copy)]
 pub enum BroadcastAnswer {
     Refused(u8),
     Difference(i64),

@@ -12,7 +12,7 @@ mod gregorian;
 
 use timestamp::Timestamp;
 
-#[derive(Drop)]
+#[derive(Clone, Copy)]
 pub struct Date {
     pub year: u32,
     pub month: u8,
@@ -23,13 +23,13 @@ pub struct Date {
     pub fraction: u32,
 }
 
-#[derive(Drop)]
+#[derive(Clone, Copy)]
 pub enum DateAnswer {
     Refused(u8),
     Date(Date),
 }
 
-#[derive(Drop)]
+#[derive(Clone, Copy)]
 pub enum TimestampAnswer {
     Refused(u8),
     Timestamp(Timestamp),

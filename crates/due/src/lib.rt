@@ -9,7 +9,7 @@ ghost use Rattle.due.specs.Due.{past, ask_due, give_up_due};
 use client::{Client, Phase};
 use timestamp::Timestamp;
 
-#[derive(Drop)]
+#[derive(Clone, Copy)]
 pub enum Due {
     Refused(u8),
     At(u64),

@@ -12,20 +12,20 @@ pub const HEADER_LENGTH: usize = 48;
 pub const MAXIMUM_LENGTH: usize = 1024;
 
 // Where the next field of a packet begins.
-#[derive(Drop)]
+#[derive(Clone, Copy)]
 pub struct Cursor {
     pub at: usize,
 }
 
 // What beginning to read the fields of a packet answers.
-#[derive(Drop)]
+#[derive(Clone, Copy)]
 pub enum BeginAnswer {
     Refused(u8),
     Begun(Cursor),
 }
 
 // What stands at a cursor: a field, whose body is the packet's octets from start to end; the end of the fields; or octets that break the rules, by 7.
-#[derive(Drop)]
+#[derive(Clone, Copy)]
 pub enum NextAnswer {
     Field {
         field_type: u16,

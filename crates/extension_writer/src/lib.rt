@@ -8,7 +8,7 @@ ghost use Rattle.extension.specs.Tail.{maximum_length};
 ghost use Rattle.extension_writer.specs.Writer.{filled_length, filled_to, new_length, no_room, add_tests, added, with_field, added_buffer};
 
 // What adding a field answers: a refusal, or the packet's new length.
-#[derive(Drop)]
+#[derive(Clone, Copy)]
 pub enum AddAnswer {
     Refused(u8),
     Added(usize),

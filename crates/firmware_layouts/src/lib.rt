@@ -20,7 +20,7 @@ pub const IMAGE: usize = 32;
 
 pub const ANSWER: usize = 24;
 
-#[derive(Drop)]
+#[derive(Clone, Copy)]
 pub enum ImageAnswer {
     NotLegal,
     Client(Client),

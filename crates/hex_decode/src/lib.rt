@@ -7,7 +7,7 @@ ghost use Rattle.hex_decode.specs.Decoding.{in_line, pushed_line, pushed_line_bu
 
 // What is known of a line so far: how many octets of it stand in a lent buffer, the digit that waits for its second one, and whether a character
 // was no digit or there was no room.
-#[derive(Drop)]
+#[derive(Clone, Copy)]
 pub struct Line {
     pub count: usize,
     pub high: u8,
@@ -15,7 +15,7 @@ pub struct Line {
 }
 
 // A line after some characters, and the index of the character that comes next.
-#[derive(Drop)]
+#[derive(Clone, Copy)]
 pub struct PushedLine {
     pub line: Line,
     pub at: usize,

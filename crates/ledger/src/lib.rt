@@ -11,32 +11,32 @@ ghost use Rattle.ordered_tests.specs.Tests.{between};
 ghost use Rattle.ledger.specs.Ledger.{opened, half_units, is_debt_too_large, is_entry_too_large, refused_entry, entered, payment, refused_tick, ticked};
 
 // The debt in half units, below 2^50 in size.
-#[derive(Drop)]
+#[derive(Clone, Copy)]
 pub struct Ledger {
     pub debt: i64,
 }
 
 // What an entry answers, with the next record.
-#[derive(Drop)]
+#[derive(Clone, Copy)]
 pub enum EntryAnswer {
     Refused(u8),
     Taken,
 }
 
-#[derive(Drop)]
+#[derive(Clone, Copy)]
 pub struct Entered {
     pub answer: EntryAnswer,
     pub ledger: Ledger,
 }
 
 // What a tick answers, with the next record. What it paid has the debt's sign.
-#[derive(Drop)]
+#[derive(Clone, Copy)]
 pub enum TickAnswer {
     Refused(u8),
     Paid(i64),
 }
 
-#[derive(Drop)]
+#[derive(Clone, Copy)]
 pub struct Ticked {
     pub answer: TickAnswer,
     pub ledger: Ledger,

@@ -7,14 +7,14 @@ ghost use Rattle.offset.specs.Offset.{halves, measured};
 use timestamp::{Difference, Timestamp};
 
 // The refusal's number, or the offset with its half, and the round-trip delay, all in units of 2^-32 s.
-#[derive(Drop)]
+#[derive(Clone, Copy)]
 pub enum OffsetAnswer {
     Refused(u8),
     Measured { offset: i64, half: u8, delay: i64 },
 }
 
 // A sum halved: twice the offset plus the half is the sum.
-#[derive(Drop)]
+#[derive(Clone, Copy)]
 pub struct Halves {
     pub offset: i64,
     pub half: u8,

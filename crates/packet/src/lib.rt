@@ -12,7 +12,7 @@ use timestamp::Timestamp;
 pub const LENGTH: usize = extension::HEADER_LENGTH;
 
 // `leap` is LI and `version` VN; root delay and root dispersion have 16 fraction bits.
-#[derive(Drop)]
+#[derive(Clone, Copy)]
 pub struct Fields {
     pub leap: u8,
     pub version: u8,
@@ -30,14 +30,14 @@ pub struct Fields {
 }
 
 // What writing a packet answers.
-#[derive(Drop)]
+#[derive(Clone, Copy)]
 pub enum WriteAnswer {
     Refused(u8),
     Written,
 }
 
 // What reading a packet answers.
-#[derive(Drop)]
+#[derive(Clone, Copy)]
 pub enum FieldsAnswer {
     Refused(u8),
     Fields(Fields),

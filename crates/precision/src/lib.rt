@@ -6,7 +6,7 @@ ghost use Rattle.precision.specs.Precision.{precision_of};
 
 use timestamp::Timestamp;
 
-#[derive(Drop)]
+#[derive(Clone, Copy)]
 pub enum PrecisionAnswer {
     Refused(u8),
     Precision(i8),

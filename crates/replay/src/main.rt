@@ -8,7 +8,7 @@ use libc::{STDIN_FILENO, STDOUT_FILENO};
 use replay_lines::Replay;
 
 // Where the replay is, and whether the input goes on.
-#[derive(Drop)]
+#[derive(Clone, Copy)]
 struct State {
     replay: Replay,
     more: bool,

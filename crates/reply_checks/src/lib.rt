@@ -12,7 +12,7 @@ use timestamp::Timestamp;
 use token::Token;
 
 // What an arrival answers. `code` is the reference identifier.
-#[derive(Drop)]
+#[derive(Clone, Copy)]
 pub enum ArrivalAnswer {
     Refused(u8),
     Accepted { offset: i64, half: u8, delay: i64 },

@@ -12,7 +12,7 @@ use packet::{Fields, FieldsAnswer};
 use server_packet::{Message, Settings, out_of_range};
 use timestamp::{Difference, Timestamp};
 
-#[derive(Drop)]
+#[derive(Clone, Copy)]
 pub enum ReplyAnswer {
     Refused(u8),
     Written,

@@ -9,7 +9,7 @@ use packet::Fields;
 use timestamp::Timestamp;
 
 // `leap` is LI; `identifier` and `reference` say from where and when the server's clock was last set.
-#[derive(Drop)]
+#[derive(Clone, Copy)]
 pub struct Settings {
     pub synchronised: bool,
     pub leap: u8,
@@ -19,7 +19,7 @@ pub struct Settings {
 }
 
 // What a packet has beside the settings.
-#[derive(Drop)]
+#[derive(Clone, Copy)]
 pub struct Message {
     pub mode: u8,
     pub version: u8,

@@ -5,11 +5,11 @@ ghost use Rattle.std.specs.Prelude.{◌≡◌};
 ghost use Rattle.timestamp.specs.Timestamp.{timestamp, from_seconds, seconds_of, fraction_of, constants, is_zero, ◌since◌, ordered};
 
 // A type of its own: the type checker keeps it apart from a difference, which is an i64.
-#[derive(Drop)]
+#[derive(Clone, Copy)]
 pub struct Timestamp(pub u64);
 
 // The constants of the type, for `Timestamp::constants`.
-#[derive(Drop)]
+#[derive(Clone, Copy)]
 pub struct Constants {
     pub zero: Timestamp,
     pub second: u64,
@@ -18,7 +18,7 @@ pub struct Constants {
 }
 
 // What a difference of two timestamps is: a number of units, or none where they are half a circle apart, 2^63 units, and neither is the earlier one.
-#[derive(Drop)]
+#[derive(Clone, Copy)]
 pub enum Difference {
     NoOrder,
     Units(i64),

@@ -7,7 +7,7 @@ ghost use Rattle.token.specs.Token.{is_zero_token, carried};
 
 use timestamp::Timestamp;
 
-#[derive(Drop)]
+#[derive(Clone, Copy)]
 pub struct Token(pub u64);
 
 impl Token {

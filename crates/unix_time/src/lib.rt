@@ -9,13 +9,13 @@ use calendar::TimestampAnswer;
 use timestamp::Timestamp;
 
 // Seconds from 1970-01-01 00:00:00, negative before it, and the nanoseconds from there on.
-#[derive(Drop)]
+#[derive(Clone, Copy)]
 pub struct UnixTime {
     pub seconds: i64,
     pub nanoseconds: u32,
 }
 
-#[derive(Drop)]
+#[derive(Clone, Copy)]
 pub enum UnixTimeAnswer {
     Refused(u8),
     UnixTime(UnixTime),
