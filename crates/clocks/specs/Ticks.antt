@@ -28,33 +28,33 @@ abbrev pub excess : Exchange → ℤ → ℕ → ℤ
 excess e offset half = twice offset +ℤ pos half -ℤ twice (true_difference e)
 
 -- the ticks of the two clocks, in units
-module _ (clientTick serverTick : ℕ) (e : Exchange) where
+module _ (client_tick server_tick : ℕ) (e : Exchange) where
   abbrev pub readings : Four
   readings = record {
-    t1 = reading clientTick e.client e.sent;
-    t2 = reading serverTick e.server e.received;
-    t3 = reading serverTick e.server e.answered;
-    t4 = reading clientTick e.client e.arrived;
+    t1 = reading client_tick e.client e.sent;
+    t2 = reading server_tick e.server e.received;
+    t3 = reading server_tick e.server e.answered;
+    t4 = reading client_tick e.client e.arrived;
   }
 
   -- as in demand 3, with the client's tick less one unit added to the trip, and both ticks, each less one unit, to the clocks' difference
   pub record Orderly : Type 0 where
-    pub ticks : IsTick clientTick × IsTick serverTick
+    pub ticks : IsTick client_tick × IsTick server_tick
     pub outward : e.sent ≤ℤ e.received
     pub hold : e.received ≤ℤ e.answered
     pub back : e.answered ≤ℤ e.arrived
-    pub short : ((e.arrived -ℤ e.sent) +ℤ pos (clientTick - 1)) ≤ℤ pos longest_trip
+    pub short : ((e.arrived -ℤ e.sent) +ℤ pos (client_tick - 1)) ≤ℤ pos longest_trip
     pub nonzero : (readings.t1 ≢ constants.zero) × (readings.t2 ≢ constants.zero) × (readings.t3 ≢ constants.zero) × (readings.t4 ≢ constants.zero)
-    pub near : nat_abs (true_difference e) + (clientTick - 1) + (serverTick - 1) < clocks_apart
+    pub near : nat_abs (true_difference e) + (client_tick - 1) + (server_tick - 1) < clocks_apart
 
   -- the miss is at most half the delay plus the larger tick less one unit; more sharply, the client's tick bounds it above, and the server's below
   pub record InBound (offset : ℤ) (half : ℕ) : Type 0 where
-    pub bound : pos (nat_abs (excess e offset half)) ≤ℤ (d readings +ℤ twice (pos (max clientTick serverTick - 1)))
-    pub above : excess e offset half ≤ℤ (d readings +ℤ twice (pos (clientTick - 1)))
-    pub below : neg_ℤ (excess e offset half) ≤ℤ (d readings +ℤ twice (pos (serverTick - 1)))
+    pub bound : pos (nat_abs (excess e offset half)) ≤ℤ (d readings +ℤ twice (pos (max client_tick server_tick - 1)))
+    pub above : excess e offset half ≤ℤ (d readings +ℤ twice (pos (client_tick - 1)))
+    pub below : neg_ℤ (excess e offset half) ≤ℤ (d readings +ℤ twice (pos (server_tick - 1)))
 
 -- the offset that the rules make of the readings is within the bound
 abbrev pub Bounded : Type 0
 Bounded =
-    (clientTick serverTick : ℕ) (e : Exchange) → Orderly clientTick serverTick e
-    → let t = readings clientTick serverTick e in InBound clientTick serverTick e (offset t) (half t)
+    (client_tick server_tick : ℕ) (e : Exchange) → Orderly client_tick server_tick e
+    → let t = readings client_tick server_tick e in InBound client_tick server_tick e (offset t) (half t)

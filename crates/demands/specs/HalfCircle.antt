@@ -14,5 +14,5 @@ AllInOrder t = InOrder (t.t4 since t.t1) × InOrder (t.t3 since t.t2) × InOrder
 
 pub record NeverHalfCircle : Type 0 where
   pub exchange : (e : Exchange) → Orderly e → AllInOrder (readings e)
-  pub ticking : (clientTick serverTick : ℕ) (e : Exchange) → ticks.Orderly clientTick serverTick e → AllInOrder (ticks.readings clientTick serverTick e)
+  pub ticking : (client_tick server_tick : ℕ) (e : Exchange) → ticks.Orderly client_tick server_tick e → AllInOrder (ticks.readings client_tick server_tick e)
   pub broadcast : (e : OneWay) → one_way.Orderly e → InOrder (one_way.T3 e since one_way.T4 e)

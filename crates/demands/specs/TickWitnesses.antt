@@ -12,16 +12,16 @@ use Rattle.demands.specs.Demand3.{the_arrival}
 use Rattle.demands.specs.Ticks.{Premises}
 use Rattle.demands.specs.Witnesses.{run}
 
-module _ (clientTick serverTick : ℕ) (e : Exchange) where
+module _ (client_tick server_tick : ℕ) (e : Exchange) where
   -- the premises are met, the clocks read these four, and the arrival of the reply tells this
   pub record Works (t1 t2 t3 t4 : ℕ) (result : Result) : Type 0 where
-    pub met : Premises clientTick serverTick ours (run e)
-    pub read : readings clientTick serverTick e ≡ record { t1 = timestamp t1; t2 = timestamp t2; t3 = timestamp t3; t4 = timestamp t4 }
-    pub told : (the_arrival ours (readings clientTick serverTick e) (run e)).result ≡ result
+    pub met : Premises client_tick server_tick ours (run e)
+    pub read : readings client_tick server_tick e ≡ record { t1 = timestamp t1; t2 = timestamp t2; t3 = timestamp t3; t4 = timestamp t4 }
+    pub told : (the_arrival ours (readings client_tick server_tick e) (run e)).result ≡ result
 
   -- the bound cannot be less
   abbrev pub MeetsBound : ℤ → ℕ → Type 0
-  MeetsBound offset half = pos (nat_abs (excess e offset half)) ≡ d (readings clientTick serverTick e) +ℤ twice (pos (max clientTick serverTick - 1))
+  MeetsBound offset half = pos (nat_abs (excess e offset half)) ≡ d (readings client_tick server_tick e) +ℤ twice (pos (max client_tick server_tick - 1))
 
 -- the server's clock ticks while the packet is there, and the client's clock, with the smaller tick, shows less time for the whole trip
 abbrev pub short_trip : Exchange

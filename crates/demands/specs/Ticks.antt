@@ -9,12 +9,12 @@ use Rattle.demands.specs.Behaviour.{Behaviour, client, form}
 use Rattle.demands.specs.Demand3.{Run, reply_arriving, the_arrival, CallPremises, CallConclusions, Demand3}
 
 -- the ticks of the two clocks, in units
-module _ (clientTick serverTick : ℕ) (b : Behaviour) (r : Run) where
+module _ (client_tick server_tick : ℕ) (b : Behaviour) (r : Run) where
   abbrev t : Four
-  t = readings clientTick serverTick r.exchange
+  t = readings client_tick server_tick r.exchange
 
   pub record Premises : Type 0 where
-    pub orderly : Orderly clientTick serverTick r.exchange
+    pub orderly : Orderly client_tick server_tick r.exchange
     pub calls : CallPremises b t r
 
   -- the delay is negative, and the arrival is refused by 18 and changes nothing
@@ -27,7 +27,7 @@ module _ (clientTick serverTick : ℕ) (b : Behaviour) (r : Run) where
     pub half : ℕ
     pub half_0_or_1 : half ≤ 1
     pub reply : (the_arrival b t r).result ≡ accepted offset half (d t)
-    pub in_bound : InBound clientTick serverTick r.exchange offset half
+    pub in_bound : InBound client_tick server_tick r.exchange offset half
 
   pub record Conclusions : Type 0 where
     pub calls : CallConclusions b t r
@@ -35,7 +35,7 @@ module _ (clientTick serverTick : ℕ) (b : Behaviour) (r : Run) where
 
 -- One statement over all ticks and all that demand 3 speaks of.
 abbrev pub Ticks : Behaviour → Type 0
-Ticks b = (clientTick serverTick : ℕ) (r : Run) → Premises clientTick serverTick b r → Conclusions clientTick serverTick b r
+Ticks b = (client_tick server_tick : ℕ) (r : Run) → Premises client_tick server_tick b r → Conclusions client_tick server_tick b r
 
 -- demand 3 is this at ticks of one unit
 abbrev pub Demand3Follows : Type 0

@@ -1,5 +1,5 @@
 -- What `pongulvesz_ask_due` and `pongulvesz_give_up_due` say of `pongulvesz_ask` and `pongulvesz_give_up` on the same image, for any octets.
--- If `askDue` or `giveUpDue` is At u, its call returns 0 and writes u. If it is Refused n, its call returns n, which is not 0, and writes nothing.
+-- If `ask_due` or `give_up_due` is At u, its call returns 0 and writes u. If it is Refused n, its call returns n, which is not 0, and writes nothing.
 -- An ask or a give-up returns the number of its refusal, else 0; due/specs/Laws.antt has Exactly and AtLeast. proofs/Laws.antt proves this.
 use Rattle.std.specs.Prelude.{ℕ, ◌≡◌, List, length}
 use Rattle.refusals.specs.Numbers.{record_not_legal, asked_too_soon, gave_up_too_soon}

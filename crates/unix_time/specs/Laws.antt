@@ -25,19 +25,19 @@ abbrev pub NotLaterUnix : UnixTime → UnixTime → Type 0
 NotLaterUnix u v = (u.seconds <ℤ v.seconds) ⊎ ((u.seconds ≡ v.seconds) × (u.nanoseconds ≤ v.nanoseconds))
 
 -- asked of any two functions, there and back, beside any that gives dates
-pub record Laws (unix_time : Timestamp → UnixTimeAnswer) (timestampAgain : UnixTime → TimestampAnswer) (date_of : Timestamp → DateAnswer) : Type 0 where
+pub record Laws (unix_time : Timestamp → UnixTimeAnswer) (timestamp_again : UnixTime → TimestampAnswer) (date_of : Timestamp → DateAnswer) : Type 0 where
   -- every timestamp but zero has a Unix time
   pub timed : (t : Timestamp) → (t ≡ timestamp 0 → ⊥) → (u : UnixTime) × (unix_time t ≡ UnixTimeAnswer.UnixTime u)
   -- zero has none
   pub zero_refused : unix_time (timestamp 0) ≡ UnixTimeAnswer.Refused timestamp_zero
   -- a Unix time whose way back is not refused comes back the same
-  pub same : (u : UnixTime) (t : Timestamp) → timestampAgain u ≡ TimestampAnswer.Timestamp t → unix_time t ≡ UnixTimeAnswer.UnixTime u
+  pub same : (u : UnixTime) (t : Timestamp) → timestamp_again u ≡ TimestampAnswer.Timestamp t → unix_time t ≡ UnixTimeAnswer.UnixTime u
   -- a timestamp of 64 bits comes back not later and less than one nanosecond early
   pub barely_before : (t : Timestamp) (u : UnixTime) → t.0 < 2 ^ 64 → 4 < t.0 → unix_time t ≡ UnixTimeAnswer.UnixTime u
-      → (b : Timestamp) × (timestampAgain u ≡ TimestampAnswer.Timestamp b) × BarelyBefore b t
+      → (b : Timestamp) × (timestamp_again u ≡ TimestampAnswer.Timestamp b) × BarelyBefore b t
   -- save second zero with fraction 1 to 4, whose way back is refused
   pub first_four : (t : Timestamp) (u : UnixTime) → t.0 ≤ 4 → unix_time t ≡ UnixTimeAnswer.UnixTime u
-      → timestampAgain u ≡ TimestampAnswer.Refused timestamp_zero
+      → timestamp_again u ≡ TimestampAnswer.Refused timestamp_zero
   -- the date of a timestamp names its Unix second
   pub same_second : (t : Timestamp) (d : Date) (u : UnixTime) → t.0 < 2 ^ 64 → date_of t ≡ DateAnswer.Date d → unix_time t ≡ UnixTimeAnswer.UnixTime u
       → u.seconds ≡ pos (seconds_to d) -ℤ pos (seconds_to (date 1970 1 1 0 0 0 0))
