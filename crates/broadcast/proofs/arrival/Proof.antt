@@ -6,20 +6,20 @@ use Rattle.broadcast.specs.Broadcast.{broadcast_arrived}
 use Rattle.broadcast.proofs.arrival.Statement.{statement}
 use Rattle.broadcast.proofs.arrival.Tie as tie
 
-returns : tie.Need-returns
+returns : tie.Need-returns-in-Refused
 unfolding broadcast_arrived
 returns c =
-    let arm = c.before in
-    let read = arm.before.before in
-    let wrong = read_refused read.before.before.args.packet.now (sym read.read.ensures ∙ arm.n.given.1) in
+    let arm = c in
+    let read = arm in
+    let wrong = read_refused read.args.packet.now (sym read.read.ensures ∙ arm.in-Refused.is) in
     rw (wrong.0, wrong.1)
 
-returns-2 : tie.Need-returns-2
+returns-2 : tie.Need-returns-in-Fields
 unfolding broadcast_arrived
 returns-2 c =
-    let arm = c.before.before in
-    let read = arm.before.before in
-    let right = read_fields read.before.before.args.packet.now (sym read.read.ensures ∙ arm.f.given.1) in
+    let arm = c.before in
+    let read = arm in
+    let right = read_fields read.args.packet.now (sym read.read.ensures ∙ arm.in-Fields.is) in
     rw (right.0, right.1) c.check.ensures
 
 pub arrival_spec : {M : Type 1} → statement M

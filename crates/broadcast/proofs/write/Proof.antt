@@ -19,14 +19,14 @@ use Rattle.broadcast.proofs.write.Tie as tie
 abbrev table : tie.Start → Tests WriteAnswer
 table s = write_tests s.args.settings s.args.version s.args.poll s.args.t3 (length s.args.buffer.now)
 
-returns : tie.Need-returns
+returns : tie.Need-returns-then-n-ne0
 unfolding broadcast_written broadcast_buffer
 returns c =
     let t = table c.before.before.before in
-    let e = c.before.first-write-refusal.ensures in
-    (by_number Refused t e c.if1.true, sym (kept_number t _ _ e c.if1.true))
+    let e = c.first_write_refusal-n.ensures in
+    (by_number Refused t e c.if-n-ne0.true, sym (kept_number t _ _ e c.if-n-ne0.true))
 
-returns-2 : tie.Need-returns-2
+returns-2 : tie.Need-returns
 unfolding broadcast_written broadcast_buffer write_tests
 returns-2 c =
     let write = c.before.before in
@@ -35,7 +35,7 @@ returns-2 c =
     let s = else1.before.before.before in
     let a = s.args in
     let t = table s in
-    let none = rw else1.before.first-write-refusal.ensures at else1.if1.false in
+    let none = rw else1.first_write_refusal-n.ensures at else1.if-n-ne0.false in
     let all = passed t tt none in
     let version : a.version ≤ 4 = leb_yes (and_yes (leb 1 a.version) (leb a.version 4) (T_not-not (between 1 4 a.version) all.1.0)).1 in
     let below : a.version ≤ 7 = omega (arith, version) in

@@ -21,4 +21,4 @@ in_era s from to = go (ltb s start2036) refl
 
 pub era_seconds_spec : {M : Type 1} → statement M
 era_seconds_spec =
-    tie.close (tie.spec (λ c. omega (arith, bounds)) (λ c. search rules) (λ c. rw bounds.era-1900 at (in_era c.args.s c.requires.0 c.requires.1)))
+    tie.close (tie.spec (λ c. omega (arith, bounds)) (λ c. search rules) (λ c. rw bounds.era_1900 at (in_era c.args.s c.requires.0 c.requires.1)))

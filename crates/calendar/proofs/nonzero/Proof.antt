@@ -9,5 +9,5 @@ nonzero_spec =
     tie.close
     (tie.spec
     (λ c. search rules)
-    (λ c. simp (sym c.before.is_zero.ensures ∙ c.if1.true))
-    (λ c. simp (sym c.before.is_zero.ensures ∙ c.if1.false)))
+    (λ c. simp (sym c.is_zero.ensures ∙ c.if-is_zero.true))
+    (λ c. simp (sym c.is_zero.ensures ∙ c.if-is_zero.false)))

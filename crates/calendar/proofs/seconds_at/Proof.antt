@@ -7,13 +7,13 @@ use Rattle.calendar.proofs.Dates.{bounds}
 use Rattle.calendar.proofs.seconds_at.Statement.{statement}
 use Rattle.calendar.proofs.seconds_at.Tie as tie
 
-returns : tie.Need-returns
+returns : tie.Need-returns-then-seconds-ge-TOP_BIT
 unfolding seconds_at
-returns c = (simp (le-leb _ _ (rw c.before.seconds.ensures at c.if1.true), bounds.era-1900) (omega arith), omega arith, omega arith)
+returns c = (simp (le-leb _ _ (rw c.seconds-seconds.ensures at c.if-seconds-ge-TOP_BIT.true), bounds.era_1900) (omega arith), omega arith, omega arith)
 
-returns-2 : tie.Need-returns-2
+returns-2 : tie.Need-returns-else-seconds-ge-TOP_BIT
 unfolding seconds_at
-returns-2 c = (simp (lt-leb _ _ (rw c.before.seconds.ensures at c.if1.false), bounds.era-2036) (omega arith), omega arith, omega arith)
+returns-2 c = (simp (lt-leb _ _ (rw c.seconds-seconds.ensures at c.if-seconds-ge-TOP_BIT.false), bounds.era_2036) (omega arith), omega arith, omega arith)
 
 pub seconds_at_spec : {M : Type 1} → statement M
 seconds_at_spec =

@@ -7,7 +7,7 @@ use Rattle.calendar.proofs.seconds_to.Tie as tie
 
 returns : tie.Need-returns
 unfolding seconds_to days_to
-returns c = omega (arith, c.before.before.before.before.days-to-month.ensures.0)
+returns c = omega (arith, c.days_to_month.ensures.0)
 
 pub seconds_to_spec : {M : Type 1} → statement M
 seconds_to_spec = tie.close (tie.spec (λ c. search rules) (λ c. search rules) (λ c κs. search rules) (λ c. search rules) (λ c. search rules) (λ c. search rules) (λ c. search rules) (λ c. search rules) (λ c. search rules) (λ c. search rules) (λ c. search rules) (λ c. search rules) (λ c. search rules) (λ c. search rules) (λ c. search rules) returns)

@@ -1,6 +1,6 @@
 -- `calendar::timestamp_of_date` meets its contract: each test picks a row of the definition. Assumes nothing.
-use mathlib.Core.Path.{◌≡◌, sym, ◌∙◌}
-use mathlib.Core.Bool.{true}
+use mathlib.Core.Path.{◌≡◌, sym, ◌∙◌, ap}
+use mathlib.Core.Bool.{true, not}
 use Prim.Native.Nat.{ℕ}
 use native.Mathlib.Omega.{arith}
 use borrow.Author.Rules.{rules}
@@ -17,23 +17,23 @@ use Rattle.calendar.proofs.Dates.{exists_ranges, window_has, bounds}
 use Rattle.calendar.proofs.timestamp_of_date.Statement.{statement}
 use Rattle.calendar.proofs.timestamp_of_date.Tie as tie
 
-returns : tie.Need-returns
+returns : tie.Need-returns-then-not-is_date
 unfolding timestamp_of
-returns c = simp (sym c.before.is-date.ensures ∙ not-true _ c.if1.true)
+returns c = simp (sym c.is_date.ensures ∙ not-true _ (ap not c.if-not-is_date.true))
 
-seconds-to-requires : tie.Need-seconds-to-requires
-seconds-to-requires c κs = exists_ranges _ (sym c.before.is-date.ensures ∙ not-false _ c.if1.false)
+seconds_to-requires : tie.Need-seconds_to-s-requires
+seconds_to-requires c κs = exists_ranges _ (sym c.is_date.ensures ∙ not-false _ (ap not c.if-not-is_date.false))
 
-returns-2 : tie.Need-returns-2
+returns-2 : tie.Need-returns-then-not-in_window
 unfolding timestamp_of
 returns-2 c =
     let s = c.before.before in
     let e = s.before in
-    simp (sym e.before.is-date.ensures ∙ not-false _ e.if1.false, ← s.seconds-to.ensures, sym c.before.in_window.ensures ∙ not-true _ c.if2.true)
+    simp (sym e.is_date.ensures ∙ not-false _ (ap not e.if-not-is_date.false), ← s.seconds_to-s.ensures, sym c.in_window.ensures ∙ not-true _ (ap not c.if-not-in_window.true))
 
-era-seconds-requires : tie.Need-era-seconds-requires
-era-seconds-requires c κs =
-    let w = window_has _ (sym c.before.in_window.ensures ∙ not-false _ c.if2.false) in omega (arith, bounds)
+era_seconds-requires : tie.Need-era_seconds-requires
+era_seconds-requires c κs =
+    let w = window_has _ (sym c.in_window.ensures ∙ not-false _ (ap not c.if-not-in_window.false)) in omega (arith, bounds)
 
 -- the last two rows: the calls' results s, n and t make the timestamp
 rows : (d : Date) (s n : ℕ) (t : Timestamp) → exists d ≡ true → s ≡ seconds_to d → in_window s ≡ true → n ≡ era_seconds s → t ≡ from_seconds n d.fraction
@@ -41,15 +41,15 @@ rows : (d : Date) (s n : ℕ) (t : Timestamp) → exists d ≡ true → s ≡ se
 unfolding timestamp_of
 rows d s n t e a w b h = rw (h, b) (simp (e, ← a, w))
 
-returns-3 : tie.Need-returns-3
+returns-3 : tie.Need-returns
 returns-3 c =
     let w = c.before.before.before in
     let s = w.before.before in
     let e = s.before in
     c.nonzero.ensures
-    ∙ rows _ _ _ _ (sym e.before.is-date.ensures ∙ not-false _ e.if1.false) s.seconds-to.ensures
-    (sym w.before.in_window.ensures ∙ not-false _ w.if2.false) c.before.before.era-seconds.ensures c.before.from-seconds.ensures
+    ∙ rows _ _ _ _ (sym e.is_date.ensures ∙ not-false _ (ap not e.if-not-is_date.false)) s.seconds_to-s.ensures
+    (sym w.in_window.ensures ∙ not-false _ (ap not w.if-not-in_window.false)) c.era_seconds.ensures c.from_seconds.ensures
 
 pub timestamp_of_date_spec : {M : Type 1} → statement M
 timestamp_of_date_spec =
-    tie.close (tie.spec (λ c. search rules) returns seconds-to-requires (λ c. search rules) returns-2 era-seconds-requires (λ c. search rules) (λ c. search rules) returns-3)
+    tie.close (tie.spec (λ c. search rules) returns seconds_to-requires (λ c. search rules) returns-2 era_seconds-requires (λ c. search rules) (λ c. search rules) returns-3)

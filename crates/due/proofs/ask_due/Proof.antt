@@ -15,41 +15,41 @@ use Rattle.due.specs.Due.{past, ask_due_tests, ask_due}
 use Rattle.due.proofs.ask_due.Statement.{statement}
 use Rattle.due.proofs.ask_due.Tie as tie
 
-legal : (c : tie.Else1) → illegal c.before.before.args.client ≡ false
-legal c = sym c.before.illegal.ensures ∙ c.if1.false
+legal : (c : tie.Else-illegal) → illegal c.args.client ≡ false
+legal c = sym c.illegal.ensures ∙ c.if-illegal.false
 
-returns : tie.Need-returns
+returns : tie.Need-returns-then-illegal
 unfolding ask_due ask_due_tests
-returns c = rw (sym c.before.illegal.ensures ∙ c.if1.true)
+returns c = rw (sym c.illegal.ensures ∙ c.if-illegal.true)
 
-returns-2 : tie.Need-returns-2
+returns-2 : tie.Need-returns-then-not-client
 unfolding ask_due ask_due_tests
 returns-2 c =
     let idle = c.before.before in
-    let e = idle.before.before in
-    rw (legal e, idle.enum-told3.given.1, not-true e.before.before.args.client.asked c.if2.true)
+    let e = idle.before in
+    rw (legal e, idle.in-Idle.is, not-true e.args.client.asked c.if-not-client.true)
 
-shl-past : tie.Need-overflow-shl-past
-shl-past c = let e = c.before.before.before.before.before in omega (arith, (exponents e.before.before.args.client (legal e)).1)
+shl-past : tie.Need-overflow_shl-client
+shl-past c = let e = c.before.before.before.before in omega (arith, (exponents e.args.client (legal e)).1)
 
-returns-3 : tie.Need-returns-3
+returns-3 : tie.Need-returns-in-Stopped
 unfolding ask_due ask_due_tests
-returns-3 c = rw (legal c.before.before, c.enum_told.given.1)
+returns-3 c = rw (legal c.before, c.in-Stopped.is)
 
-returns-4 : tie.Need-returns-4
+returns-4 : tie.Need-returns-in-Waiting
 unfolding ask_due ask_due_tests
-returns-4 c = rw (legal c.before.before, c.enum-told2.given.1)
+returns-4 c = rw (legal c.before, c.in-Waiting.is)
 
-returns-5 : tie.Need-returns-5
+returns-5 : tie.Need-returns-else-not-client
 unfolding ask_due ask_due_tests
 returns-5 c =
     let asked = c.before.before in
     let idle = asked.before.before in
-    let e = idle.before.before in
-    let client = e.before.before.args.client in
+    let e = idle.before in
+    let client = e.args.client in
     let small = (exponents client (legal e)).1 in
     let interval = ap (λ (n : ℕ). answer Due.Refused (past asked_too_soon client.uptime n)) (shifted client.exponent (omega arith)) in
-    rw (legal e, idle.enum-told3.given.1, not-false client.asked asked.if2.false) (c.past.ensures ∙ interval)
+    rw (legal e, idle.in-Idle.is, not-false client.asked asked.if-not-client.false) (c.past.ensures ∙ interval)
 
 pub ask_due_spec : {M : Type 1} → statement M
 ask_due_spec =

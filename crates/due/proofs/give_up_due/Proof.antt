@@ -7,24 +7,24 @@ use Rattle.due.specs.Due.{give_up_due_tests, give_up_due}
 use Rattle.due.proofs.give_up_due.Statement.{statement}
 use Rattle.due.proofs.give_up_due.Tie as tie
 
-legal : (c : tie.Else1) → illegal c.before.before.args.client ≡ false
-legal c = sym c.before.illegal.ensures ∙ c.if1.false
+legal : (c : tie.Else-illegal) → illegal c.args.client ≡ false
+legal c = sym c.illegal.ensures ∙ c.if-illegal.false
 
-returns : tie.Need-returns
+returns : tie.Need-returns-then-illegal
 unfolding give_up_due give_up_due_tests
-returns c = rw (sym c.before.illegal.ensures ∙ c.if1.true)
+returns c = rw (sym c.illegal.ensures ∙ c.if-illegal.true)
 
-returns-2 : tie.Need-returns-2
+returns-2 : tie.Need-returns-in-Idle
 unfolding give_up_due give_up_due_tests
-returns-2 c = rw (legal c.before.before, c.enum_told.given.1)
+returns-2 c = rw (legal c.before, c.in-Idle.is)
 
-returns-3 : tie.Need-returns-3
+returns-3 : tie.Need-returns-in-Stopped
 unfolding give_up_due give_up_due_tests
-returns-3 c = rw (legal c.before.before, c.enum-told2.given.1)
+returns-3 c = rw (legal c.before, c.in-Stopped.is)
 
-returns-4 : tie.Need-returns-4
+returns-4 : tie.Need-returns-in-Waiting
 unfolding give_up_due give_up_due_tests
-returns-4 c = let waits = c.before in rw (legal waits.before.before, waits.enum-told3.given.1) c.past.ensures
+returns-4 c = let waits = c.before in rw (legal waits.before, waits.in-Waiting.is) c.past.ensures
 
 pub give_up_due_spec : {M : Type 1} → statement M
 give_up_due_spec =

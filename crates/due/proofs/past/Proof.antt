@@ -6,11 +6,11 @@ use borrow.Author.Tests.{le-leb, lt-leb}
 use Rattle.due.proofs.past.Statement.{statement}
 use Rattle.due.proofs.past.Tie as tie
 
-returns : tie.Need-returns
-returns c = let a = c.before.args in rw (le-leb (2 ^ 64) (a.since + a.seconds) (omega arith))
+returns : tie.Need-returns-then-since-seconds
+returns c = let a = c.args in rw (le-leb (2 ^ 64) (a.since + a.seconds) (omega arith))
 
-returns-2 : tie.Need-returns-2
-returns-2 c = let a = c.before.args in rw (lt-leb (2 ^ 64) (a.since + a.seconds) (omega arith))
+returns-2 : tie.Need-returns
+returns-2 c = let a = c.args in rw (lt-leb (2 ^ 64) (a.since + a.seconds) (omega arith))
 
 pub past_spec : {M : Type 1} → statement M
 past_spec = tie.close (tie.spec (λ c. search rules) returns (λ c. search rules) returns-2)

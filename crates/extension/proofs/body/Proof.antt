@@ -7,7 +7,7 @@ use Rattle.extension.proofs.body.Tie as tie
 returns : tie.Need-returns
 returns c =
     let b = c.before in
-    clamped _ _ _ _ _ b.before.least.ensures b.least2.ensures
+    clamped _ _ _ _ _ b.least-last.ensures b.least-first.ensures
 
 pub body_spec : {M : Type 1} → statement M
 body_spec = tie.close (tie.spec _ _ (λ c. search rules) (λ c. search rules) (λ c. search rules) returns)

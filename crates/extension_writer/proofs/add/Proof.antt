@@ -9,27 +9,27 @@ use Rattle.extension_writer.proofs.Adding.{facts, refused_so, added_so}
 use Rattle.extension_writer.proofs.add.Statement.{statement}
 use Rattle.extension_writer.proofs.add.Tie as tie
 
-returns : tie.Need-returns
+returns : tie.Need-returns-then-refusal-ne0
 returns c =
-    let a = c.before.before.before.before.before.args in
-    refused_so a.buffer.now a.size a.field-type a.body.now _ c.before.first-refusal.ensures c.if1.true
+    let a = c.args in
+    refused_so a.buffer.now a.size a.field_type a.body.now _ c.first_refusal-refusal.ensures c.if-refusal-ne0.true
 
-zero : (c : tie.Else1) → let a = c.before.before.before.before.before.args in number (add_tests a.buffer.now a.size (length a.body.now)) ≡ 0
-zero c = sym c.before.first-refusal.ensures ∙ c.if1.false
+zero : (c : tie.Else-refusal-ne0) → let a = c.args in number (add_tests a.buffer.now a.size (length a.body.now)) ≡ 0
+zero c = sym c.first_refusal-refusal.ensures ∙ c.if-refusal-ne0.false
 
-store-field-requires : tie.Need-store-field-requires
-store-field-requires c κs =
-    let a = c.before.before.before.before.before.before.args in
+store_field-requires : tie.Need-store_field-requires
+store_field-requires c κs =
+    let a = c.args in
     let p = facts a.buffer.now a.size (length a.body.now) (zero c.before) in
     (p.room, p.small)
 
-returns-2 : tie.Need-returns-2
+returns-2 : tie.Need-returns
 returns-2 c =
     let f = c.before.before in
     let e = f.before.before in
-    let a = e.before.before.before.before.before.args in
-    let q = added_so a.buffer.now a.size a.field-type a.body.now (zero e) in
-    (ap Added f.store-field.ensures.0 ∙ q.0, f.store-field.ensures.1 ∙ q.1)
+    let a = e.args in
+    let q = added_so a.buffer.now a.size a.field_type a.body.now (zero e) in
+    (ap Added f.store_field.ensures.0 ∙ q.0, f.store_field.ensures.1 ∙ q.1)
 
 pub add_spec : {M : Type 1} → statement M
-add_spec = tie.close (tie.spec _ (λ c. search rules) returns store-field-requires (λ c. search rules) returns-2)
+add_spec = tie.close (tie.spec _ (λ c. search rules) returns store_field-requires (λ c. search rules) returns-2)

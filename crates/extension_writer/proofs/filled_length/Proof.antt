@@ -4,11 +4,11 @@ use Rattle.extension_writer.specs.Writer.{filled_length}
 use Rattle.extension_writer.proofs.filled_length.Statement.{statement}
 use Rattle.extension_writer.proofs.filled_length.Tie as tie
 
-returns : tie.Need-returns
+returns : tie.Need-returns-then-m-gt24
 unfolding filled_length
 returns c = search rules
 
-returns-2 : tie.Need-returns-2
+returns-2 : tie.Need-returns-else-m-gt24
 unfolding filled_length
 returns-2 c = search rules
 

@@ -14,53 +14,53 @@ use Rattle.extension_writer.proofs.first_refusal.Tie as tie
 abbrev table : tie.Start → Tests AddAnswer
 table s = add_tests s.args.buffer.now s.args.size s.args.n
 
-returns : tie.Need-returns
+returns : tie.Need-returns-then-buffer-size
 unfolding add_tests
-returns c = returned (starts {t = table c.before.before}) (lt-ltb _ _ c.if1.true)
+returns c = returned (starts {t = table c.before.before}) (lt-ltb _ _ c.if-buffer-size.true)
 
-at_1 : (c : tie.Else1) → At 1 (table c.before.before)
+at_1 : (c : tie.Else-buffer-size) → At 1 (table c.before.before)
 unfolding add_tests
-at_1 c = goes_on starts (le-ltb _ _ c.if1.false)
+at_1 c = goes_on starts (le-ltb _ _ c.if-buffer-size.false)
 
-slice-aggregate-is-malformed : tie.Need-slice-aggregate-is-malformed
-slice-aggregate-is-malformed c = sym (length-take-le _ _ c.before.if1.false)
+slice_aggregate-is_malformed : tie.Need-slice_bounds-is_malformed-end
+slice_aggregate-is_malformed c = sym (length-take-le _ _ c.if-buffer-size.false)
 
-returns-2 : tie.Need-returns-2
+returns-2 : tie.Need-returns-then-is_malformed
 unfolding add_tests
 returns-2 c =
     let b = c.before in
-    returned (at_1 b.before.before) (sym b.is-malformed.ensures ∙ c.if2.true)
+    returned (at_1 b.before) (sym b.is_malformed.ensures ∙ c.if-is_malformed.true)
 
-at_2 : (c : tie.Else2) → At 2 (table c.before.before.before.before.before)
+at_2 : (c : tie.Else-is_malformed) → At 2 (table c.before.before.before.before)
 unfolding add_tests
 at_2 c =
     let b = c.before in
-    goes_on (at_1 b.before.before) (sym b.is-malformed.ensures ∙ c.if2.false)
+    goes_on (at_1 b.before) (sym b.is_malformed.ensures ∙ c.if-is_malformed.false)
 
-slice-aggregate-octets-after-fields : tie.Need-slice-aggregate-octets-after-fields
-slice-aggregate-octets-after-fields c = sym (length-take-le _ _ c.before.before.before.before.if1.false)
+slice_aggregate-octets_after_fields : tie.Need-slice_bounds-octets_after_fields-end
+slice_aggregate-octets_after_fields c = sym (length-take-le _ _ c.if-buffer-size.false)
 
-returns-3 : tie.Need-returns-3
+returns-3 : tie.Need-returns-then-octets_after_fields-ne0
 unfolding add_tests
 returns-3 c =
     let l = c.before in
-    returned (at_2 l.before.before) (ap (ltb 0) (sym l.octets-after-fields.ensures) ∙ lt-ltb 0 l.octets-after-fields.result (omega arith))
+    returned (at_2 l.before) (ap (ltb 0) (sym l.octets_after_fields.ensures) ∙ lt-ltb 0 l.octets_after_fields.result (omega arith))
 
-at_3 : (c : tie.Else3) → At 3 (table c.before.before.before.before.before.before.before.before)
+at_3 : (c : tie.Else-octets_after_fields-ne0) → At 3 (table c.before.before.before.before.before.before)
 unfolding add_tests
 at_3 c =
     let l = c.before in
-    goes_on (at_2 l.before.before) (ap (ltb 0) (sym l.octets-after-fields.ensures) ∙ le-ltb 0 l.octets-after-fields.result (omega arith))
+    goes_on (at_2 l.before) (ap (ltb 0) (sym l.octets_after_fields.ensures) ∙ le-ltb 0 l.octets_after_fields.result (omega arith))
 
-returns-4 : tie.Need-returns-4
+returns-4 : tie.Need-returns-then-no_room
 unfolding add_tests
-returns-4 c = returned (at_3 c.before.before) (sym c.before.no_room.ensures ∙ c.if4.true)
+returns-4 c = returned (at_3 c.before.before) (sym c.no_room.ensures ∙ c.if-no_room.true)
 
-returns-5 : tie.Need-returns-5
+returns-5 : tie.Need-returns
 unfolding add_tests
-returns-5 c = returned (goes_on (at_3 c.before.before) (sym c.before.no_room.ensures ∙ c.if4.false)) refl
+returns-5 c = returned (goes_on (at_3 c.before.before) (sym c.no_room.ensures ∙ c.if-no_room.false)) refl
 
 pub first_refusal_spec : {M : Type 1} → statement M
 first_refusal_spec =
     tie.close
-    (tie.spec returns slice-aggregate-is-malformed _ returns-2 slice-aggregate-octets-after-fields _ returns-3 _ returns-4 returns-5)
+    (tie.spec returns slice_aggregate-is_malformed _ returns-2 slice_aggregate-octets_after_fields _ returns-3 _ returns-4 returns-5)

@@ -9,8 +9,8 @@ unfolding has_legal_values
 returns c =
     let exponent = c.before in
     let asked = exponent.before in
-    let phase = asked.before in
-    rw (phase.octet-or-zero.ensures, asked.octet-or-zero2.ensures, exponent.octet-or-zero3.ensures, c.read-be32.ensures)
+    let phase = asked in
+    rw (phase.octet_or_zero.ensures, asked.octet_or_zero-2.ensures, exponent.octet_or_zero-3.ensures, c.read_be32.ensures)
 
 pub has_legal_values_spec : {M : Type 1} → statement M
 has_legal_values_spec =

@@ -12,10 +12,10 @@ returns : tie.Need-returns
 returns c =
     let c3 = c.before.before in
     let c2 = c3.before.before.before.before in
-    let c1 = c2.before.before.before.before in
-    let e2 = c2.write-be64.ensures ∙ put_room 8 c1.put-head.new.0 8 (omega arith) _ in
-    let e3 = c3.write-be642.ensures ∙ put_room 8 c2.write-be64.new.0 16 (omega arith) _ in
-    rw (e3, e2, c1.put-head.ensures) (simp (sets_append, length-append, length_octets))
+    let c1 = c2 in
+    let e2 = c2.write_be64.ensures ∙ put_room 8 c1.put_head.new.b 8 (omega arith) _ in
+    let e3 = c3.write_be64-2.ensures ∙ put_room 8 c2.write_be64.new.b 16 (omega arith) _ in
+    rw (e3, e2, c1.put_head.ensures) (simp (sets_append, length-append, length_octets))
 
 pub put_answer_spec : {M : Type 1} → statement M
 put_answer_spec =

@@ -18,11 +18,11 @@ returns c =
     let head = c2.before.before.before.before in
     let exponent = head.before in
     let asked = exponent.before in
-    let phase = asked.before in
-    let e2 = c2.write-be64.ensures ∙ put_room 8 head.put-head.new.0 8 (omega arith) _ in
-    let e3 = c3.write-be642.ensures ∙ put_room 8 c2.write-be64.new.0 16 (omega arith) _ in
-    let e4 = c4.write-be643.ensures ∙ put_room 8 c3.write-be642.new.0 24 (omega arith) _ in
-    rw (e4, e3, e2, head.put-head.ensures, phase.phase-octet.ensures, asked.flag-octet.ensures, exponent.above-six.ensures)
+    let phase = asked in
+    let e2 = c2.write_be64.ensures ∙ put_room 8 head.put_head.new.b 8 (omega arith) _ in
+    let e3 = c3.write_be64-2.ensures ∙ put_room 8 c2.write_be64.new.b 16 (omega arith) _ in
+    let e4 = c4.write_be64-3.ensures ∙ put_room 8 c3.write_be64-2.new.b 24 (omega arith) _ in
+    rw (e4, e3, e2, head.put_head.ensures, phase.phase_octet.ensures, asked.flag_octet.ensures, exponent.above_six.ensures)
     (simp (sets_append, length-append, length_octets))
 
 pub put_image_spec : {M : Type 1} → statement M

@@ -5,11 +5,11 @@ use Rattle.firmware_layouts.specs.Image.{record_in}
 use Rattle.firmware_layouts.proofs.record.Statement.{statement}
 use Rattle.firmware_layouts.proofs.record.Tie as tie
 
-add-exponent : tie.Need-overflow-add-t13
+add-exponent : tie.Need-overflow_add-result
 add-exponent c =
-    let start = c.before.before.before.before.before.before.before.before.before.before in
+    let start = c in
     let few = start.requires in
-    rw c.octet-or-zero4.ensures (record { fits = omega (arith, few) })
+    rw c.octet_or_zero-4.ensures (record { fits = omega (arith, few) })
 
 returns : tie.Need-returns
 unfolding record_in
@@ -21,15 +21,15 @@ returns c =
     let t1 = token.before in
     let phase = t1.before.before in
     rw (
-      phase.phase-of.ensures,
-      phase.before.octet-or-zero.ensures,
-      t1.from-units.ensures,
-      t1.before.read-be64.ensures,
-      token.read-be642.ensures,
-      version.octet-or-zero2.ensures,
-      asked.octet-or-zero3.ensures,
-      uptime.read-be643.ensures,
-      c.octet-or-zero4.ensures,
+      phase.phase_of.ensures,
+      phase.octet_or_zero.ensures,
+      t1.from_units.ensures,
+      t1.read_be64.ensures,
+      token.read_be64-2.ensures,
+      version.octet_or_zero-2.ensures,
+      asked.octet_or_zero-3.ensures,
+      uptime.read_be64-3.ensures,
+      c.octet_or_zero-4.ensures,
     )
 
 pub record_spec : {M : Type 1} → statement M

@@ -5,15 +5,15 @@ use Rattle.firmware_layouts.proofs.Layouts.{image_stored, image_kept}
 use Rattle.firmware_layouts.proofs.write_image.Statement.{statement}
 use Rattle.firmware_layouts.proofs.write_image.Tie as tie
 
-returns : tie.Need-returns
+returns : tie.Need-returns-then-image-eq-IMAGE
 returns c =
     let put = c.before.before in
     let test = put.before.before in
-    let a = test.before.before.args in
-    put.put-image.ensures ∙ image_stored a.image.now a.client test.if1.true
+    let a = test.args in
+    put.put_image.ensures ∙ image_stored a.image.now a.client test.if-image-eq-IMAGE.true
 
-returns-2 : tie.Need-returns-2
-returns-2 c = let a = c.before.before.args in image_kept a.image.now a.client c.if1.false
+returns-2 : tie.Need-returns-else-image-eq-IMAGE
+returns-2 c = let a = c.args in image_kept a.image.now a.client c.if-image-eq-IMAGE.false
 
 pub write_image_spec : {M : Type 1} → statement M
 write_image_spec = tie.close (tie.spec (λ c κs. search rules) (λ c. search rules) returns returns-2)

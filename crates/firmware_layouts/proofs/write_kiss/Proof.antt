@@ -8,16 +8,16 @@ use Rattle.firmware_layouts.proofs.Layouts.{answer_stored, answer_kept}
 use Rattle.firmware_layouts.proofs.write_kiss.Statement.{statement}
 use Rattle.firmware_layouts.proofs.write_kiss.Tie as tie
 
-returns : tie.Need-returns
+returns : tie.Need-returns-then-answer-eq-ANSWER
 unfolding answer_in octets
 returns c =
     let put = c.before.before in
     let test = put.before.before in
-    let a = test.before.before.args in
-    put.put-answer.ensures ∙ answer_stored a.answer.now (kiss a.code a.row) refl refl test.if1.true
+    let a = test.args in
+    put.put_answer.ensures ∙ answer_stored a.answer.now (kiss a.code a.row) refl refl test.if-answer-eq-ANSWER.true
 
-returns-2 : tie.Need-returns-2
-returns-2 c = let a = c.before.before.args in answer_kept a.answer.now (kiss a.code a.row) c.if1.false
+returns-2 : tie.Need-returns-else-answer-eq-ANSWER
+returns-2 c = let a = c.args in answer_kept a.answer.now (kiss a.code a.row) c.if-answer-eq-ANSWER.false
 
 pub write_kiss_spec : {M : Type 1} → statement M
 write_kiss_spec = tie.close (tie.spec (λ c κs. search rules) (λ c. search rules) returns returns-2)

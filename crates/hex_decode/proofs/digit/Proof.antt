@@ -5,11 +5,11 @@ use Rattle.hex_decode.proofs.Digits.{value, none}
 use Rattle.hex_decode.proofs.digit.Statement.{statement}
 use Rattle.hex_decode.proofs.digit.Tie as tie
 
-returns : tie.Need-returns
-returns c = value c.before.before.args.c (sym c.before.is_digit.ensures ∙ c.if1.true)
+returns : tie.Need-returns-then-is_digit
+returns c = value c.args.c (sym c.is_digit.ensures ∙ c.if-is_digit.true)
 
-returns-2 : tie.Need-returns-2
-returns-2 c = none c.before.before.args.c (sym c.before.is_digit.ensures ∙ c.if1.false)
+returns-2 : tie.Need-returns-else-is_digit
+returns-2 c = none c.args.c (sym c.is_digit.ensures ∙ c.if-is_digit.false)
 
 pub digit_spec : {M : Type 1} → statement M
 digit_spec = tie.close (tie.spec (λ c κs. search rules) (λ c. search rules) (λ c. search rules) returns returns-2)

@@ -4,11 +4,11 @@ use borrow.Author.Tests.{lt-ltb, le-ltb}
 use Rattle.hex_decode.proofs.in_line.Statement.{statement}
 use Rattle.hex_decode.proofs.in_line.Tie as tie
 
-returns : tie.Need-returns
-returns c = rw (lt-ltb _ _ c.before.if1.true)
+returns : tie.Need-returns-then-i-characters
+returns c = rw (lt-ltb _ _ c.if-i-characters.true)
 
-returns-2 : tie.Need-returns-2
-returns-2 c = rw (le-ltb _ _ c.if1.false)
+returns-2 : tie.Need-returns-else-i-characters
+returns-2 c = rw (le-ltb _ _ c.if-i-characters.false)
 
 pub in_line_spec : {M : Type 1} → statement M
 in_line_spec = tie.close (tie.spec (λ c. search rules) returns returns-2)

@@ -11,47 +11,47 @@ use Rattle.hex_encode.proofs.Written.{length_digits, length_text, put_last}
 use Rattle.hex_encode.proofs.put_line.Statement.{statement}
 use Rattle.hex_encode.proofs.put_line.Tie as tie
 
-returns : tie.Need-returns
+returns : tie.Need-returns-then-output-at
 unfolding put_line put_line_at
 returns c =
-    let a = c.before.before.before.args in
+    let a = c.args in
     let n = length_text a.octets.now in
     let full = lt-leb (a.at + length (text a.octets.now)) (length a.output.now) (omega arith) in
     (rw full, rw full)
 
-returns-2 : tie.Need-returns-2
+returns-2 : tie.Need-returns-then-room-octets
 unfolding put_line put_line_at
 returns-2 c =
-    let a = c.before.before.before.before.args in
+    let a = c.args in
     let n = length_text a.octets.now in
     let full = lt-leb (a.at + length (text a.octets.now)) (length a.output.now) (omega arith) in
     (rw full, rw full)
 
-put-octets-requires : tie.Need-put-octets-requires
-put-octets-requires c κs =
-    let n = length_digits c.before.before.before.before.before.args.octets.now in
+put_octets-requires : tie.Need-put_octets-end-requires
+put_octets-requires c κs =
+    let n = length_digits c.args.octets.now in
     omega arith
 
-slice-write-output : tie.Need-slice-write-output
-slice-write-output c =
-    let p = c.before.before.put-octets in
-    let a = c.before.before.before.before.before.before.before.before.args in
+slice_write-output : tie.Need-bounds-output-end
+slice_write-output c =
+    let p = c.put_octets-end in
+    let a = c.args in
     let n = length_digits a.octets.now in
     rw (p.ensures.0, p.ensures.1, length-sets) (omega arith)
 
-add-result : tie.Need-overflow-add-result
+add-result : tie.Need-overflow_add-result
 add-result c =
-    let p = c.before.before.put-octets in
-    let a = c.before.before.before.before.before.before.before.before.args in
+    let p = c.put_octets-end in
+    let a = c.args in
     let n = length_digits a.octets.now in
     let e = p.ensures.0 in
     search rules
 
-returns-3 : tie.Need-returns-3
+returns-3 : tie.Need-returns
 unfolding put_line put_line_at
 returns-3 c =
-    let p = c.before.before.put-octets in
-    let a = c.before.before.before.before.before.before.before.before.args in
+    let p = c.put_octets-end in
+    let a = c.args in
     let n = length_text a.octets.now in
     let d = length_digits a.octets.now in
     let room = le-leb (a.at + length (text a.octets.now)) (length a.output.now) (omega arith) in
@@ -65,8 +65,8 @@ put_line_spec =
     (λ c. search rules)
     (λ c. search rules)
     returns-2
-    put-octets-requires
-    slice-write-output
+    put_octets-requires
+    slice_write-output
     add-result
     (λ c. search rules)
     returns-3)

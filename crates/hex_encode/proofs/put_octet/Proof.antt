@@ -6,11 +6,11 @@ use lib.ListN.{length-set}
 use Rattle.hex_encode.proofs.put_octet.Statement.{statement}
 use Rattle.hex_encode.proofs.put_octet.Tie as tie
 
-slice-write-output-2 : tie.Need-slice-write-output-2
-slice-write-output-2 c = simp length-set (omega arith)
+slice_write-output-2 : tie.Need-bounds-output-at-2
+slice_write-output-2 c = simp length-set (omega arith)
 
 returns : tie.Need-returns
-returns c = rw (c.character2.ensures, c.before.character.ensures) (simp towards_suc)
+returns c = rw (c.character-2.ensures, c.character.ensures) (simp towards_suc)
 
 pub put_octet_spec : {M : Type 1} → statement M
 put_octet_spec =
@@ -20,6 +20,6 @@ put_octet_spec =
     (λ c. search rules)
     (λ c κs. search rules)
     (λ c. search rules)
-    slice-write-output-2
+    slice_write-output-2
     (λ c. search rules)
     returns)

@@ -27,19 +27,19 @@ returns c =
     let at_1 = at_2.before.before in
     λ i.
     names "ACST" at_1.code.ensures i
-    ∷ names "AUTH" at_2.code2.ensures i
-    ∷ names "AUTO" at_3.code3.ensures i
-    ∷ names "BCST" at_4.code4.ensures i
-    ∷ names "CRYP" at_5.code5.ensures i
-    ∷ names "DENY" at_6.code6.ensures i
-    ∷ names "DROP" at_7.code7.ensures i
-    ∷ names "RSTR" at_8.code8.ensures i
-    ∷ names "INIT" at_9.code9.ensures i
-    ∷ names "MCST" at-10.code10.ensures i
-    ∷ names "NKEY" at-11.code11.ensures i
-    ∷ names "RATE" at-12.code12.ensures i
-    ∷ names "RMOT" at-13.code13.ensures i
-    ∷ names "STEP" c.code14.ensures i
+    ∷ names "AUTH" at_2.code-2.ensures i
+    ∷ names "AUTO" at_3.code-3.ensures i
+    ∷ names "BCST" at_4.code-4.ensures i
+    ∷ names "CRYP" at_5.code-5.ensures i
+    ∷ names "DENY" at_6.code-6.ensures i
+    ∷ names "DROP" at_7.code-7.ensures i
+    ∷ names "RSTR" at_8.code-8.ensures i
+    ∷ names "INIT" at_9.code-9.ensures i
+    ∷ names "MCST" at-10.code-10.ensures i
+    ∷ names "NKEY" at-11.code-11.ensures i
+    ∷ names "RATE" at-12.code-12.ensures i
+    ∷ names "RMOT" at-13.code-13.ensures i
+    ∷ names "STEP" c.code-14.ensures i
     ∷ []
 
 pub codes_spec : {M : Type 1} → statement M

@@ -5,7 +5,7 @@ use Rattle.kiss.proofs.row.Tie as tie
 
 returns : tie.Need-returns
 unfolding row_of
-returns c = rw c.before.codes.ensures at c.row_in.ensures
+returns c = rw c.codes.ensures at c.row_in.ensures
 
 pub row_spec : {M : Type 1} → statement M
 row_spec = tie.close (tie.spec _ _ returns)

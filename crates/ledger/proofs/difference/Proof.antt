@@ -6,7 +6,7 @@ use Rattle.ledger.proofs.Sizes.{difference_fits}
 use Rattle.ledger.proofs.difference.Statement.{statement}
 use Rattle.ledger.proofs.difference.Tie as tie
 
-sub-result : tie.Need-overflow-sub-result
+sub-result : tie.Need-overflow_sub-result
 sub-result c = rw (to_z-of_z c.ranges.a, to_z-of_z c.ranges.b) (difference_fits c.args.a c.args.b (omega arith) (omega arith))
 
 returns : tie.Need-returns

@@ -15,41 +15,41 @@ use Rattle.ledger.proofs.payment.Statement.{statement}
 use Rattle.ledger.proofs.payment.Tie as tie
 
 -- the smaller of the two
-smaller : (c : tie.After-least) → c.least.result ≡ min (nat_abs c.before.before.args.debt) c.before.before.args.limit
+smaller : (c : tie.After-least-paid) → c.least-paid.result ≡ min (nat_abs c.args.debt) c.args.limit
 smaller c =
-    let s = c.before.before in
-    c.least.ensures ∙ ap (λ n. min n s.args.limit) (c.before.magnitude.ensures ∙ ap nat_abs (to_z-of_z s.ranges.debt))
+    let s = c in
+    c.least-paid.ensures ∙ ap (λ n. min n s.args.limit) (c.magnitude.ensures ∙ ap nat_abs (to_z-of_z s.ranges.debt))
 
-small : (c : tie.After-least) → c.least.result < 2 ^ 50
+small : (c : tie.After-least-paid) → c.least-paid.result < 2 ^ 50
 small c =
-    let s = c.before.before in
+    let s = c in
     let m = min-le_left (nat_abs s.args.debt) s.args.limit in
     let e = smaller c in
     omega arith
 
-cast-paid : tie.Need-overflow-cast-paid
+cast-paid : tie.Need-overflow_cast-paid
 cast-paid c = let m = small c in record { sfits = omega arith }
 
 difference-requires : tie.Need-difference-requires
 difference-requires c κs =
     let m = small c.before in
-    (omega arith, rw (to_z_pos w64 c.before.least.result (omega arith)) (omega arith))
+    (omega arith, rw (to_z_pos w64 c.least-paid.result (omega arith)) (omega arith))
 
-returns : tie.Need-returns
+returns : tie.Need-returns-then-debt-lt0
 returns c =
     let l = c.before.before in
-    let s = l.before.before in
+    let s = l in
     let m = small l in
     let r : SFits w64 c.difference.result = search rules in
-    to_z-of_z r ∙ c.difference.ensures ∙ ap (λ z. pos 0 -ℤ z) (to_z_pos w64 l.least.result (omega arith) ∙ ap pos (smaller l))
-    ∙ back s.args.debt s.args.limit (rw (to_z-of_z s.ranges.debt) at c.before.if1.true)
+    to_z-of_z r ∙ c.difference.ensures ∙ ap (λ z. pos 0 -ℤ z) (to_z_pos w64 l.least-paid.result (omega arith) ∙ ap pos (smaller l))
+    ∙ back s.args.debt s.args.limit (rw (to_z-of_z s.ranges.debt) at c.if-debt-lt0.true)
 
-returns-2 : tie.Need-returns-2
+returns-2 : tie.Need-returns-else-debt-lt0
 returns-2 c =
     let l = c.before in
-    let s = l.before.before in
+    let s = l in
     let m = small l in
-    to_z_pos w64 l.least.result (omega arith) ∙ ap pos (smaller l) ∙ on s.args.debt s.args.limit (rw (to_z-of_z s.ranges.debt) at c.if1.false)
+    to_z_pos w64 l.least-paid.result (omega arith) ∙ ap pos (smaller l) ∙ on s.args.debt s.args.limit (rw (to_z-of_z s.ranges.debt) at c.if-debt-lt0.false)
 
 pub payment_spec : {M : Type 1} → statement M
 payment_spec =

@@ -6,7 +6,7 @@ use Rattle.ledger.proofs.Sizes.{sum_fits}
 use Rattle.ledger.proofs.sum.Statement.{statement}
 use Rattle.ledger.proofs.sum.Tie as tie
 
-add-result : tie.Need-overflow-add-result
+add-result : tie.Need-overflow_add-result
 add-result c = rw (to_z-of_z c.ranges.a, to_z-of_z c.ranges.b) (sum_fits c.args.a c.args.b (omega arith) (omega arith))
 
 returns : tie.Need-returns

@@ -6,8 +6,8 @@ use Rattle.octets.proofs.swap_octets64.Tie as tie
 
 returns : tie.Need-returns
 returns c =
-    rw (c.from_halves.ensures, c.before.swap-octets322.ensures, c.before.before.swap-octets32.ensures)
-    (sym (reverse_add 4 4 c.before.before.before.args.x))
+    rw (c.from_halves.ensures, c.swap_octets32-2.ensures, c.swap_octets32.ensures)
+    (sym (reverse_add 4 4 c.args.x))
 
 pub swap_octets64_spec : {M : Type 1} → statement M
 swap_octets64_spec =

@@ -6,13 +6,13 @@ use Rattle.offset.proofs.Halving.{half_below, shifted, low_bit, one, one_fits, t
 use Rattle.offset.proofs.halve.Statement.{statement}
 use Rattle.offset.proofs.halve.Tie as tie
 
-add-t6 : tie.Need-overflow-add-t6
+add-t6 : tie.Need-overflow_add-result
 add-t6 c =
     let f = c.ranges.p in
     let g = c.ranges.q in
     rw (shifted (sfits_to_z (one_fits _ _ f g))) (together_fits _ _ f g)
 
-cast-t8 : tie.Need-overflow-cast-t8
+cast-t8 : tie.Need-overflow_cast-result
 cast-t8 c =
     let f = one_fits _ _ c.ranges.p c.ranges.q in
     rw (low_bit f) (tt, record { fits = omega (arith, half_below (one c.args.p c.args.q)) })

@@ -8,18 +8,18 @@ use borrow.Author.Rules.{rules}
 use Rattle.packet.proofs.first_word.Statement.{statement}
 use Rattle.packet.proofs.first_word.Tie as tie
 
-first-octet-requires : tie.Need-first-octet-requires
-first-octet-requires c κs = bounded c.before.before.args.fields c.before.before.requires
+first_octet-requires : tie.Need-first_octet-requires
+first_octet-requires c κs = bounded c.args.fields c.requires
 
 returns : tie.Need-returns
 unfolding octets_of
 returns c =
-    let o = c.before.first-octet in
-    let b = c.before.before.bits8 in
-    let t = c.before.before.before.struct_told in
-    let f = c.before.before.before.before.args.fields in
+    let o = c.first_octet in
+    let b = c.bits8 in
+    let t = c.struct_told-1 in
+    let f = c.args.fields in
     let p = t.given.1.1.1.1.1.0.1 in
     rw (c.be32.ensures, octets_four b.result f.poll f.stratum o.result (omega arith, omega arith, omega arith, omega arith), o.ensures, b.ensures, to_z-of_z w8 f.precision (record { sfits = p }))
 
 pub first_word_spec : {M : Type 1} → statement M
-first_word_spec = tie.close (tie.spec (λ c κs. search rules) first-octet-requires (λ c κs. search rules) returns)
+first_word_spec = tie.close (tie.spec (λ c κs. search rules) first_octet-requires (λ c κs. search rules) returns)

@@ -19,13 +19,13 @@ returns c =
     let c3 = c4.before.before.before.before in
     let c2 = c3.before.before.before.before in
     let c1 = c2.before.before.before.before.before.before in
-    let a = c1.before.before.before.before.args in
-    let d = c2.before.before.struct_told.given.1.1.1.1.1.1.0.1 in
-    let e1 = c1.write-le32.ensures ∙ reversed_room 4 a.b.now 0 (omega arith) _ in
-    let e2 = c2.write-be32.ensures ∙ put_room 4 c1.write-le32.new.0 4 (omega arith) _ in
-    let e3 = c3.write-be322.ensures ∙ put_room 4 c2.write-be32.new.0 8 (omega arith) _ in
-    let e4 = c4.write-be323.ensures ∙ put_room 4 c3.write-be322.new.0 12 (omega arith) _ in
-    rw (c5.put-timestamps.ensures, e4, e3, e2, c2.before.bits32.ensures, e1, c1.before.first_word.ensures, to_z-of_z w32 a.fields.root_delay (record { sfits = d }))
+    let a = c1.args in
+    let d = c2.struct_told-1.given.1.1.1.1.1.1.0.1 in
+    let e1 = c1.write_le32.ensures ∙ reversed_room 4 a.b.now 0 (omega arith) _ in
+    let e2 = c2.write_be32.ensures ∙ put_room 4 c1.write_le32.new.b 4 (omega arith) _ in
+    let e3 = c3.write_be32-2.ensures ∙ put_room 4 c2.write_be32.new.b 8 (omega arith) _ in
+    let e4 = c4.write_be32-3.ensures ∙ put_room 4 c3.write_be32-2.new.b 12 (omega arith) _ in
+    rw (c5.put_timestamps.ensures, e4, e3, e2, c2.bits32.ensures, e1, c1.first_word.ensures, to_z-of_z w32 a.fields.root_delay (record { sfits = d }))
     (simp (sets_append, length-append, length_octets))
 
 pub put_fields_spec : {M : Type 1} → statement M

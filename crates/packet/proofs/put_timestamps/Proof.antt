@@ -15,11 +15,11 @@ returns c =
     let c3 = c4.before.before.before.before in
     let c2 = c3.before.before.before.before in
     let c1 = c2.before.before.before.before in
-    let a = c1.before.before.before.args in
-    let e1 = c1.write-be64.ensures ∙ put_room 8 a.b.now a.at (omega arith) _ in
-    let e2 = c2.write-be642.ensures ∙ put_room 8 c1.write-be64.new.0 (a.at + 8) (omega arith) _ in
-    let e3 = c3.write-be643.ensures ∙ put_room 8 c2.write-be642.new.0 (a.at + 16) (omega arith) _ in
-    let e4 = c4.write-be644.ensures ∙ put_room 8 c3.write-be643.new.0 (a.at + 24) (omega arith) _ in
+    let a = c1.args in
+    let e1 = c1.write_be64.ensures ∙ put_room 8 a.b.now a.at (omega arith) _ in
+    let e2 = c2.write_be64-2.ensures ∙ put_room 8 c1.write_be64.new.b (a.at + 8) (omega arith) _ in
+    let e3 = c3.write_be64-3.ensures ∙ put_room 8 c2.write_be64-2.new.b (a.at + 16) (omega arith) _ in
+    let e4 = c4.write_be64-4.ensures ∙ put_room 8 c3.write_be64-3.new.b (a.at + 24) (omega arith) _ in
     rw (e4, e3, e2, e1) (simp (sets_append, length-append, length_octets))
 
 pub put_timestamps_spec : {M : Type 1} → statement M

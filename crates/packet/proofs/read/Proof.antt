@@ -6,16 +6,16 @@ use Rattle.packet.proofs.Packet.{header_fields}
 use Rattle.packet.proofs.read.Statement.{statement}
 use Rattle.packet.proofs.read.Tie as tie
 
-returns : tie.Need-returns
-returns c = rw (sym c.before.is-malformed.ensures ∙ c.if1.true)
+returns : tie.Need-returns-then-is_malformed
+returns c = rw (sym c.is_malformed.ensures ∙ c.if-is_malformed.true)
 
-formed : (c : tie.Else1) → is_malformed c.before.before.before.args.packet.now ≡ false
-formed c = sym c.before.is-malformed.ensures ∙ c.if1.false
+formed : (c : tie.Else-is_malformed) → is_malformed c.args.packet.now ≡ false
+formed c = sym c.is_malformed.ensures ∙ c.if-is_malformed.false
 
-returns-2 : tie.Need-returns-2
+returns-2 : tie.Need-returns
 returns-2 c =
     let f = formed c.before in
-    rw (c.read-header.ensures ∙ header_fields _ f, f)
+    rw (c.read_header.ensures ∙ header_fields _ f, f)
 
 pub read_spec : {M : Type 1} → statement M
 read_spec = tie.close (tie.spec _ returns _ returns-2)

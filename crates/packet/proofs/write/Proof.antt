@@ -6,30 +6,30 @@ use borrow.Author.Rules.{rules}
 use Rattle.packet.proofs.write.Statement.{statement}
 use Rattle.packet.proofs.write.Tie as tie
 
-returns : tie.Need-returns
+returns : tie.Need-returns-then-buffer-lt-LENGTH
 returns c =
-    let short = lt-ltb _ _ c.if1.true in
+    let short = lt-ltb _ _ c.if-buffer-lt-LENGTH.true in
     (rw short, rw short)
 
-returns-2 : tie.Need-returns-2
+returns-2 : tie.Need-returns-then-field_too_large
 returns-2 c =
-    let long = le-ltb _ _ c.before.before.if1.false in
-    let large = sym c.before.field-too-large.ensures ∙ c.if2.true in
+    let long = le-ltb _ _ c.if-buffer-lt-LENGTH.false in
+    let large = sym c.field_too_large.ensures ∙ c.if-field_too_large.true in
     (rw (long, large), rw (long, large))
 
-put-fields-requires : tie.Need-put-fields-requires
-put-fields-requires c κs = (search rules, sym c.before.before.field-too-large.ensures ∙ c.before.if2.false)
+put_fields-requires : tie.Need-put_fields-requires
+put_fields-requires c κs = (search rules, sym c.field_too_large.ensures ∙ c.if-field_too_large.false)
 
-returns-3 : tie.Need-returns-3
+returns-3 : tie.Need-returns
 returns-3 c =
     let put = c.before.before in
     let c2 = put.before.before in
     let room = c2.before.before in
-    let a = room.before.before.args in
-    let small = sym c2.before.field-too-large.ensures ∙ c2.if2.false in
-    (sym (answer_written a.buffer.now a.fields room.if1.false small), put.put-fields.ensures ∙ stored a.buffer.now a.fields room.if1.false small)
+    let a = room.args in
+    let small = sym c2.field_too_large.ensures ∙ c2.if-field_too_large.false in
+    (sym (answer_written a.buffer.now a.fields room.if-buffer-lt-LENGTH.false small), put.put_fields.ensures ∙ stored a.buffer.now a.fields room.if-buffer-lt-LENGTH.false small)
 
 pub write_spec : {M : Type 1} → statement M
 write_spec =
     tie.close
-    (tie.spec returns (λ c κs. search rules) returns-2 put-fields-requires (λ c. search rules) returns-3)
+    (tie.spec returns (λ c κs. search rules) returns-2 put_fields-requires (λ c. search rules) returns-3)

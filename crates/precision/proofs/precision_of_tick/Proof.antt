@@ -12,21 +12,21 @@ use Rattle.precision.proofs.Least.{length_is}
 use Rattle.precision.proofs.precision_of_tick.Statement.{statement}
 use Rattle.precision.proofs.precision_of_tick.Tie as tie
 
-returns : tie.Need-returns
+returns : tie.Need-returns-then-tick-eq0
 unfolding precision_of
-returns c = simp (eq-eqb _ _ c.if1.true)
+returns c = simp (eq-eqb _ _ c.if-tick-eq0.true)
 
-returns-2 : tie.Need-returns-2
+returns-2 : tie.Need-returns-then-tick-gt-SECOND
 unfolding precision_of
-returns-2 c = simp (ne_eqb _ _ c.before.if1.false, lt-ltb _ _ c.if2.true)
+returns-2 c = simp (ne_eqb _ _ c.if-tick-eq0.false, lt-ltb _ _ c.if-tick-gt-SECOND.true)
 
-returns-3 : tie.Need-returns-3
+returns-3 : tie.Need-returns
 unfolding precision_of
 returns-3 c =
-    let some = c.before.before.if1.false in
-    let within = c.before.if2.false in
+    let some = c.if-tick-eq0.false in
+    let within = c.if-tick-gt-SECOND.false in
     simp (ne_eqb _ _ some, le-ltb _ _ within)
-    (ap PrecisionAnswer.Precision (held_result w8 c.in-seconds.type-inv c.in-seconds.ensures ∙ ap (λ k. pos k -ℤ pos 32) (length_is _ some within)))
+    (ap PrecisionAnswer.Precision (held_result w8 c.in_seconds.type_inv c.in_seconds.ensures ∙ ap (λ k. pos k -ℤ pos 32) (length_is _ some within)))
 
 pub precision_of_tick_spec : {M : Type 1} → statement M
 precision_of_tick_spec =

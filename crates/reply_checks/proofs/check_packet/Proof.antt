@@ -6,21 +6,21 @@ use Rattle.reply_checks.specs.Checks.{checked_packet}
 use Rattle.reply_checks.proofs.check_packet.Statement.{statement}
 use Rattle.reply_checks.proofs.check_packet.Tie as tie
 
-returns : tie.Need-returns
+returns : tie.Need-returns-in-Refused
 unfolding checked_packet
 returns c =
-    let arm = c.before in
-    let read = arm.before.before in
-    let wrong = read_refused read.before.before.args.packet.now (sym read.read.ensures ∙ arm.n.given.1) in
+    let arm = c in
+    let read = arm in
+    let wrong = read_refused read.args.packet.now (sym read.read.ensures ∙ arm.in-Refused.is) in
     rw (wrong.0, wrong.1)
 
-returns-2 : tie.Need-returns-2
+returns-2 : tie.Need-returns-in-Fields
 unfolding checked_packet
 returns-2 c =
-    let arm = c.before.before in
-    let read = arm.before.before in
-    let right = read_fields read.before.before.args.packet.now (sym read.read.ensures ∙ arm.f.given.1) in
-    rw (right.0, right.1) c.check-waiting.ensures
+    let arm = c.before in
+    let read = arm in
+    let right = read_fields read.args.packet.now (sym read.read.ensures ∙ arm.in-Fields.is) in
+    rw (right.0, right.1) c.check_waiting.ensures
 
 pub check_packet_spec : {M : Type 1} → statement M
 check_packet_spec = tie.close (tie.spec _ (λ c. search rules) (λ c. search rules) _ returns returns-2)

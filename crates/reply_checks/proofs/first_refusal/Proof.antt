@@ -11,23 +11,23 @@ use Rattle.reply_checks.proofs.first_refusal.Tie as tie
 abbrev table : tie.Start → Tests (Unit {0})
 table s = match_tests s.args.token s.args.version s.args.f pass
 
-returns : tie.Need-returns
-returns c = returned (starts {t = table c.before.before.before}) (ap not (ne_eqb _ _ c.if1.true))
+returns : tie.Need-returns-then-f-token
+returns c = returned (starts {t = table c.before.before.before}) (ap not (ne_eqb _ _ c.if-f-token.true))
 
-at_1 : (c : tie.Else1) → At 1 (table c.before.before.before)
-at_1 c = goes_on starts (ap not (eq-eqb _ _ c.if1.false))
+at_1 : (c : tie.Else-f-token) → At 1 (table c.before.before.before)
+at_1 c = goes_on starts (ap not (eq-eqb _ _ c.if-f-token.false))
 
-returns-2 : tie.Need-returns-2
-returns-2 c = returned (at_1 c.before.before) (ap not (ne_eqb _ _ c.if2.true))
+returns-2 : tie.Need-returns-then-f-ne4
+returns-2 c = returned (at_1 c.before.before) (ap not (ne_eqb _ _ c.if-f-ne4.true))
 
-at_2 : (c : tie.Else2) → At 2 (table c.before.before.before.before.before)
-at_2 c = goes_on (at_1 c.before.before) (ap not (eq-eqb _ _ c.if2.false))
+at_2 : (c : tie.Else-f-ne4) → At 2 (table c.before.before.before.before.before)
+at_2 c = goes_on (at_1 c.before.before) (ap not (eq-eqb _ _ c.if-f-ne4.false))
 
-returns-3 : tie.Need-returns-3
-returns-3 c = returned (at_2 c.before.before) (ap not (ne_eqb _ _ c.if3.true))
+returns-3 : tie.Need-returns-then-f-version
+returns-3 c = returned (at_2 c.before.before) (ap not (ne_eqb _ _ c.if-f-version.true))
 
-returns-4 : tie.Need-returns-4
-returns-4 c = returned (goes_on (at_2 c.before.before) (ap not (eq-eqb _ _ c.if3.false))) refl
+returns-4 : tie.Need-returns
+returns-4 c = returned (goes_on (at_2 c.before.before) (ap not (eq-eqb _ _ c.if-f-version.false))) refl
 
 pub first_refusal_spec : {M : Type 1} → statement M
 first_refusal_spec = tie.close (tie.spec returns returns-2 returns-3 returns-4)

@@ -8,15 +8,15 @@ use Rattle.reply_checks.specs.Checks.{from_offset}
 use Rattle.reply_checks.proofs.from_offset.Statement.{statement}
 use Rattle.reply_checks.proofs.from_offset.Tie as tie
 
-returns : tie.Need-returns
-returns c = sym (ap from_offset c.before.answer.given.1)
+returns : tie.Need-returns-in-Refused
+returns c = sym (ap from_offset c.in-Refused.is)
 
-returns-2 : tie.Need-returns-2
+returns-2 : tie.Need-returns-in-Measured
 returns-2 c =
-    let m = c.before in
-    let o : SFits w64 m.answer2.given.0.0 = search rules in
-    let d : SFits w64 m.answer2.given.0.1.1.0 = search rules in
-    rw (to_z-of_z o, to_z-of_z d) (sym (ap from_offset m.answer2.given.1))
+    let m = c in
+    let o : SFits w64 m.in-Measured.offset = search rules in
+    let d : SFits w64 m.in-Measured.delay = search rules in
+    rw (to_z-of_z o, to_z-of_z d) (sym (ap from_offset m.in-Measured.is))
 
 pub from_offset_spec : {M : Type 1} → statement M
 from_offset_spec = tie.close (tie.spec (λ c. search rules) (λ c. search rules) returns returns-2)

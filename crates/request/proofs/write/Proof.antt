@@ -6,7 +6,7 @@ use Rattle.request.proofs.write.Tie as tie
 returns : tie.Need-returns
 returns c =
     let write = c.before.before in
-    rw write.before.fields.ensures at write.write.ensures
+    rw write.fields.ensures at write.write.ensures
 
 pub write_spec : {M : Type 1} → statement M
 write_spec = tie.close (tie.spec _ (λ c κs. search rules) (λ c. search rules) returns)

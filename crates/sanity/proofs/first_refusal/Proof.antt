@@ -13,61 +13,61 @@ use Rattle.sanity.proofs.first_refusal.Tie as tie
 abbrev table : tie.Start → Tests (Unit {0})
 table s = header_tests s.args.f s.args.t4 (root_tests s.args.f pass)
 
-returns : tie.Need-returns
-returns c = returned {t = table c.before.before} starts (rw c.before.is_zero.ensures at c.if1.true)
+returns : tie.Need-returns-then-is_zero
+returns c = returned {t = table c.before.before} starts (rw c.is_zero.ensures at c.if-is_zero.true)
 
-at_1 : (c : tie.Else1) → At 1 (table c.before.before)
-at_1 c = goes_on starts (rw c.before.is_zero.ensures at c.if1.false)
+at_1 : (c : tie.Else-is_zero) → At 1 (table c.before.before)
+at_1 c = goes_on starts (rw c.is_zero.ensures at c.if-is_zero.false)
 
-returns-2 : tie.Need-returns-2
-returns-2 c = returned (at_1 c.before.before) (eq-eqb _ _ c.if2.true)
+returns-2 : tie.Need-returns-then-f-eq3
+returns-2 c = returned (at_1 c.before.before) (eq-eqb _ _ c.if-f-eq3.true)
 
-at_2 : (c : tie.Else2) → At 2 (table c.before.before.before.before)
-at_2 c = goes_on (at_1 c.before.before) (ne_eqb _ _ c.if2.false)
+at_2 : (c : tie.Else-f-eq3) → At 2 (table c.before.before.before.before)
+at_2 c = goes_on (at_1 c.before.before) (ne_eqb _ _ c.if-f-eq3.false)
 
-returns-3 : tie.Need-returns-3
-returns-3 c = returned (at_2 c.before.before) (lt-ltb _ _ c.if3.true)
+returns-3 : tie.Need-returns-then-f-gt15
+returns-3 c = returned (at_2 c.before.before) (lt-ltb _ _ c.if-f-gt15.true)
 
-abbrev start3 : tie.Else3 → tie.Start
+abbrev start3 : tie.Else-f-gt15 → tie.Start
 start3 c = c.before.before.before.before.before.before
 
-at_3 : (c : tie.Else3) → At 3 (table (start3 c))
-at_3 c = goes_on (at_2 c.before.before) (le-ltb _ _ c.if3.false)
+at_3 : (c : tie.Else-f-gt15) → At 3 (table (start3 c))
+at_3 c = goes_on (at_2 c.before.before) (le-ltb _ _ c.if-f-gt15.false)
 
-returns-4 : tie.Need-returns-4
+returns-4 : tie.Need-returns-then-is_zero-2
 returns-4 c =
     let second = c.before in
     let first = second.before in
-    returned (at_3 first.before.before.before) (rw (second.is-zero3.ensures, first.is-zero2.ensures) at c.if4.true)
+    returned (at_3 first.before.before.before) (rw (second.is_zero-3.ensures, first.is_zero-2.ensures) at c.if-is_zero-2.true)
 
-abbrev start4 : tie.Else4 → tie.Start
+abbrev start4 : tie.Else-is_zero-2 → tie.Start
 start4 c = start3 c.before.before.before.before.before
 
-at_4 : (c : tie.Else4) → At 4 (table (start4 c))
+at_4 : (c : tie.Else-is_zero-2) → At 4 (table (start4 c))
 at_4 c =
     let second = c.before in
     let first = second.before in
-    goes_on (at_3 first.before.before.before) (rw (second.is-zero3.ensures, first.is-zero2.ensures) at c.if4.false)
+    goes_on (at_3 first.before.before.before) (rw (second.is_zero-3.ensures, first.is_zero-2.ensures) at c.if-is_zero-2.false)
 
 -- what the call on the root delay answers
-delay : (c : tie.After-root-delay-out-of-range)
-    → c.root-delay-out-of-range.result ≡ is_root_delay_out_of_range (start4 c.before.before).args.f.root_delay
+delay : (c : tie.After-root_delay_out_of_range)
+    → c.root_delay_out_of_range.result ≡ is_root_delay_out_of_range (start4 c.before.before).args.f.root_delay
 delay c =
     let told = c.before in
-    let fits : SFits w32 (start4 told.before).args.f.root_delay = record { sfits = told.struct_told.given.1.1.1.1.1.1.0.1 } in
-    rw (to_z-of_z fits) at c.root-delay-out-of-range.ensures
+    let fits : SFits w32 (start4 told.before).args.f.root_delay = record { sfits = told.struct_told-1.given.1.1.1.1.1.1.0.1 } in
+    rw (to_z-of_z fits) at c.root_delay_out_of_range.ensures
 
-returns-5 : tie.Need-returns-5
-returns-5 c = returned (at_4 c.before.before.before) (rw (delay c.before) at c.if5.true)
+returns-5 : tie.Need-returns-then-root_delay_out_of_range
+returns-5 c = returned (at_4 c.before.before.before) (rw (delay c.before) at c.if-root_delay_out_of_range.true)
 
-at_5 : (c : tie.Else5) → At 5 (table (start4 c.before.before.before))
-at_5 c = goes_on (at_4 c.before.before.before) (rw (delay c.before) at c.if5.false)
+at_5 : (c : tie.Else-root_delay_out_of_range) → At 5 (table (start4 c.before.before.before))
+at_5 c = goes_on (at_4 c.before.before.before) (rw (delay c.before) at c.if-root_delay_out_of_range.false)
 
-returns-6 : tie.Need-returns-6
-returns-6 c = returned (at_5 c.before.before) (rw c.before.root-dispersion-too-large.ensures at c.if6.true)
+returns-6 : tie.Need-returns-then-root_dispersion_too_large
+returns-6 c = returned (at_5 c.before.before) (rw c.root_dispersion_too_large.ensures at c.if-root_dispersion_too_large.true)
 
-returns-7 : tie.Need-returns-7
-returns-7 c = returned (goes_on (at_5 c.before.before) (rw c.before.root-dispersion-too-large.ensures at c.if6.false)) refl
+returns-7 : tie.Need-returns
+returns-7 c = returned (goes_on (at_5 c.before.before) (rw c.root_dispersion_too_large.ensures at c.if-root_dispersion_too_large.false)) refl
 
 pub first_refusal_spec : {M : Type 1} → statement M
 first_refusal_spec = tie.close (tie.spec _ returns returns-2 returns-3 _ _ returns-4 _ returns-5 _ returns-6 returns-7)

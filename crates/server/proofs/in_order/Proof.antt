@@ -30,8 +30,8 @@ bits n h = go (dec_lt n (2 ^ 63))
 returns : tie.Need-returns
 unfolding ◌since◌
 returns c =
-    let a = c.before.args in
-    let sub = c.wrapping-sub-u64 in
+    let a = c.args in
+    let sub = c.wrapping_sub_u64 in
     rw (difference_wraps 64 sub.result a.t3.0 a.t2.0 (omega arith) sub.ensures) (bits sub.result (omega arith))
 
 pub in_order_spec : {M : Type 1} → statement M

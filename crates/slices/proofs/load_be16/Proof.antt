@@ -7,7 +7,7 @@ use Rattle.slices.proofs.load_be16.Statement.{statement}
 use Rattle.slices.proofs.load_be16.Tie as tie
 
 returns : tie.Need-returns
-returns c = c.be16.ensures ∙ ap big_endian (sym (part_two _ _ c.before.before.before.before.requires))
+returns c = c.be16.ensures ∙ ap big_endian (sym (part_two _ _ c.requires))
 
 pub load_be16_spec : {M : Type 1} → statement M
 load_be16_spec = tie.close (tie.spec (λ c. search rules) (λ c. search rules) (λ c. search rules) (λ c κs. search rules) returns)

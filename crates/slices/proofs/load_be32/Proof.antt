@@ -14,9 +14,9 @@ returns c =
     let a = c.before.before.before.before.before.before.before in
     let p = a.args.p.now in
     let at = a.args.at in
-    let known : AreOctets p = λ i. omega (arith, c.before.before.shared-slice-known5.given i) in
-    let y = c.before.be32.ensures ∙ ap (λ (xs : List ℕ). big_endian (reverse xs)) (sym (part_four at p a.requires)) in
-    c.swap-octets32.ensures ∙ number_reverse 4 at p c.before.be32.result known a.requires y
+    let known : AreOctets p = λ i. omega (arith, c.shared_slice_known-5-1.given i) in
+    let y = c.be32.ensures ∙ ap (λ (xs : List ℕ). big_endian (reverse xs)) (sym (part_four at p a.requires)) in
+    c.swap_octets32.ensures ∙ number_reverse 4 at p c.be32.result known a.requires y
 
 pub load_be32_spec : {M : Type 1} → statement M
 load_be32_spec =

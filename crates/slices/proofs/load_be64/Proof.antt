@@ -8,7 +8,7 @@ use Rattle.slices.proofs.load_be64.Tie as tie
 returns : tie.Need-returns
 returns c =
     let a = c.before.before.before.before in
-    rw (c.from_halves.ensures, c.before.load-be322.ensures, c.before.before.load-be32.ensures)
+    rw (c.from_halves.ensures, c.load_be32-2.ensures, c.load_be32.ensures)
     (sym (number_add a.args.at 4 4 a.args.p.now a.requires))
 
 pub load_be64_spec : {M : Type 1} → statement M

@@ -5,8 +5,8 @@ use borrow.Author.Rules.{rules}
 use Rattle.slices.proofs.octet_or_zero.Statement.{statement}
 use Rattle.slices.proofs.octet_or_zero.Tie as tie
 
-returns-2 : tie.Need-returns-2
-returns-2 c = let a = c.before.args in sym (get_or-eq_default a.p.now 0 {n = a.i} c.if1.false)
+returns-2 : tie.Need-returns-else-i-p
+returns-2 c = let a = c.args in sym (get_or-eq_default a.p.now 0 {n = a.i} c.if-i-p.false)
 
 pub octet_or_zero_spec : {M : Type 1} → statement M
 octet_or_zero_spec = tie.close (tie.spec (λ c. search rules) (λ c. search rules) returns-2)

@@ -6,14 +6,14 @@ use Rattle.slices.proofs.Slices.{read_number, read_zero}
 use Rattle.slices.proofs.read_be64.Statement.{statement}
 use Rattle.slices.proofs.read_be64.Tie as tie
 
-load-be64-requires : tie.Need-load-be64-requires
-load-be64-requires c κs = leb-true _ _ (sym c.before.has_room.ensures ∙ c.if1.true)
+load_be64-requires : tie.Need-load_be64-requires
+load_be64-requires c κs = leb-true _ _ (sym c.has_room.ensures ∙ c.if-has_room.true)
 
-returns : tie.Need-returns
-returns c = let t = c.before in read_number 8 _ _ t.before.has_room.ensures t.if1.true c.load-be64.ensures
+returns : tie.Need-returns-then-has_room
+returns c = let t = c.before in read_number 8 _ _ t.has_room.ensures t.if-has_room.true c.load_be64.ensures
 
-returns-2 : tie.Need-returns-2
-returns-2 c = read_zero 8 _ _ c.before.has_room.ensures c.if1.false
+returns-2 : tie.Need-returns-else-has_room
+returns-2 c = read_zero 8 _ _ c.has_room.ensures c.if-has_room.false
 
 pub read_be64_spec : {M : Type 1} → statement M
-read_be64_spec = tie.close (tie.spec (λ c κs. search rules) load-be64-requires returns returns-2)
+read_be64_spec = tie.close (tie.spec (λ c κs. search rules) load_be64-requires returns returns-2)

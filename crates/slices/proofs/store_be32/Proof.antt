@@ -7,9 +7,9 @@ use Rattle.slices.proofs.store_be32.Tie as tie
 
 returns : tie.Need-returns
 returns c =
-    let a = c.before.before.before.before.before.before.args in
-    let y = c.before.before.before.swap-octets32 in
-    c.before.before.store-reversed.ensures ∙ sets_reverse 4 a.b.now a.at a.x y.result y.ensures
+    let a = c.args in
+    let y = c.swap_octets32 in
+    c.store_reversed.ensures ∙ sets_reverse 4 a.b.now a.at a.x y.result y.ensures
 
 pub store_be32_spec : {M : Type 1} → statement M
 store_be32_spec = tie.close (tie.spec (λ c κs. search rules) (λ c κs. search rules) (λ c. search rules) returns)

@@ -9,9 +9,9 @@ use Rattle.slices.proofs.store_be64.Tie as tie
 returns : tie.Need-returns
 returns c =
     let c1 = c.before.before.before.before.before.before in
-    let a = c1.before.before.before.before.args in
-    let y = c1.before.before.swap-octets64 in
-    rw (c.before.before.store-reversed2.ensures, c1.store-reversed.ensures)
+    let a = c1.args in
+    let y = c1.swap_octets64-y in
+    rw (c.store_reversed-2.ensures, c1.store_reversed.ensures)
     (sets_halves 4 4 a.b.now a.at y.result ∙ sets_reverse 8 a.b.now a.at a.x y.result y.ensures)
 
 pub store_be64_spec : {M : Type 1} → statement M

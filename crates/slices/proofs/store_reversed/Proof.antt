@@ -7,7 +7,7 @@ use Rattle.slices.proofs.store_reversed.Tie as tie
 
 returns : tie.Need-returns
 unfolding octets
-returns c = rw (c.before.before.store-four.ensures, div-one)
+returns c = rw (c.store_four.ensures, div-one)
 
 pub store_reversed_spec : {M : Type 1} → statement M
 store_reversed_spec =

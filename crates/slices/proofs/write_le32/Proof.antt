@@ -6,18 +6,18 @@ use Rattle.slices.proofs.Slices.{reversed, not_reversed}
 use Rattle.slices.proofs.write_le32.Statement.{statement}
 use Rattle.slices.proofs.write_le32.Tie as tie
 
-store-reversed-requires : tie.Need-store-reversed-requires
-store-reversed-requires c κs = leb-true _ _ (sym c.before.before.has_room.ensures ∙ c.before.if1.true)
+store_reversed-requires : tie.Need-store_reversed-requires
+store_reversed-requires c κs = leb-true _ _ (sym c.has_room.ensures ∙ c.if-has_room.true)
 
-returns : tie.Need-returns
+returns : tie.Need-returns-then-has_room
 returns c =
     let d = c.before.before in
     let t = d.before.before in
-    reversed 4 _ _ t.before.has_room.ensures t.if1.true _ d.store-reversed.ensures
+    reversed 4 _ _ t.has_room.ensures t.if-has_room.true _ d.store_reversed.ensures
 
-returns-2 : tie.Need-returns-2
-returns-2 c = not_reversed 4 _ _ c.before.has_room.ensures c.if1.false _
+returns-2 : tie.Need-returns-else-has_room
+returns-2 c = not_reversed 4 _ _ c.has_room.ensures c.if-has_room.false _
 
 pub write_le32_spec : {M : Type 1} → statement M
 write_le32_spec =
-    tie.close (tie.spec (λ c κs. search rules) store-reversed-requires (λ c. search rules) returns returns-2)
+    tie.close (tie.spec (λ c κs. search rules) store_reversed-requires (λ c. search rules) returns returns-2)

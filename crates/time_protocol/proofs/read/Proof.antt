@@ -9,14 +9,14 @@ use Rattle.time_protocol.proofs.Octets.{answer_read, number}
 use Rattle.time_protocol.proofs.read.Statement.{statement}
 use Rattle.time_protocol.proofs.read.Tie as tie
 
-returns : tie.Need-returns
-returns c = rw (ne_eqb (length c.before.before.args.octets.now) 4 λ e. omega arith)
+returns : tie.Need-returns-then-octets-ne4
+returns c = rw (ne_eqb (length c.args.octets.now) 4 λ e. omega arith)
 
-returns-2 : tie.Need-returns-2
+returns-2 : tie.Need-returns
 returns-2 c =
-    let p = c.before.before.before.args.octets.now in
+    let p = c.args.octets.now in
     let four : length p ≡ 4 = omega arith in
-    ap CountAnswer.Count (c.read-be32.ensures ∙ number p four) ∙ sym (answer_read p four)
+    ap CountAnswer.Count (c.read_be32.ensures ∙ number p four) ∙ sym (answer_read p four)
 
 pub read_spec : {M : Type 1} → statement M
 read_spec = tie.close (tie.spec returns (λ c κs. search rules) returns-2)

@@ -9,14 +9,14 @@ use Rattle.time_protocol.proofs.Octets.{answer_written, stored}
 use Rattle.time_protocol.proofs.write.Statement.{statement}
 use Rattle.time_protocol.proofs.write.Tie as tie
 
-returns : tie.Need-returns
+returns : tie.Need-returns-then-buffer-lt4
 returns c =
-    let short = lt-ltb (length c.before.before.args.buffer.now) 4 (omega arith) in
+    let short = lt-ltb (length c.args.buffer.now) 4 (omega arith) in
     (rw short, rw short)
 
-returns-2 : tie.Need-returns-2
+returns-2 : tie.Need-returns
 returns-2 c =
-    let a = c.before.before.before.before.before.before.args in
+    let a = c.args in
     let room : 4 ≤ length a.buffer.now = omega arith in
     (sym (answer_written a.buffer.now room), stored a.buffer.now room a.count (search rules))
 

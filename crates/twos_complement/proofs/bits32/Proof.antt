@@ -8,8 +8,8 @@ pub bits32_spec : {M : Type 1} → statement M
 bits32_spec =
     tie.close
     (tie.spec
-    (λ c. cast_pos w32 _ c.before.ranges.x c.if1.true)
-    (λ c. cast_neg w32 _ c.before.ranges.x c.if1.false)
-    (λ c. sub_neg w32 _ c.before.ranges.x c.if1.false)
-    (λ c. bits_pos w32 _ c.before.ranges.x c.if1.true)
-    (λ c. bits_neg w32 _ c.before.ranges.x c.if1.false))
+    (λ c. cast_pos w32 _ c.ranges.x c.if-x-ge0.true)
+    (λ c. cast_neg w32 _ c.ranges.x c.if-x-ge0.false)
+    (λ c. sub_neg w32 _ c.ranges.x c.if-x-ge0.false)
+    (λ c. bits_pos w32 _ c.ranges.x c.if-x-ge0.true)
+    (λ c. bits_neg w32 _ c.ranges.x c.if-x-ge0.false))

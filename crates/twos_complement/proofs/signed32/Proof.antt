@@ -13,5 +13,5 @@ signed32_spec =
     (λ c. search rules)
     (λ c. search rules)
     (λ c. search rules)
-    (λ c. lower w32 c.before.args.x (omega arith))
-    (λ c. upper w32 c.before.args.x (omega arith)))
+    (λ c. lower w32 c.args.x (omega arith))
+    (λ c. upper w32 c.args.x (omega arith)))

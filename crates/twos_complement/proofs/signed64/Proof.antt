@@ -13,5 +13,5 @@ signed64_spec =
     (λ c. search rules)
     (λ c. search rules)
     (λ c. search rules)
-    (λ c. lower w64 c.before.args.x (omega arith))
-    (λ c. upper w64 c.before.args.x (omega arith)))
+    (λ c. lower w64 c.args.x (omega arith))
+    (λ c. upper w64 c.args.x (omega arith)))

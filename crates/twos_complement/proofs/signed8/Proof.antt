@@ -13,5 +13,5 @@ signed8_spec =
     (λ c. search rules)
     (λ c. search rules)
     (λ c. search rules)
-    (λ c. lower w8 c.before.args.x (omega arith))
-    (λ c. upper w8 c.before.args.x (omega arith)))
+    (λ c. lower w8 c.args.x (omega arith))
+    (λ c. upper w8 c.args.x (omega arith)))

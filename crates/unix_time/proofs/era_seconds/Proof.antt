@@ -14,10 +14,10 @@ use Rattle.unix_time.proofs.era_seconds.Tie as tie
 inside : (c : tie.Start) → Inside (from_year0 c.args.seconds)
 inside c = inside_has (from_year0 c.args.seconds) c.requires
 
-add-result : tie.Need-overflow-add-result
+add-result : tie.Need-overflow_add-result
 add-result c = rw (to_z-of_z c.ranges.seconds) (since_fits c.args.seconds (inside c))
 
-cast-result : tie.Need-overflow-cast-result
+cast-result : tie.Need-overflow_cast-result
 cast-result c =
     let z = c.args.seconds in
     rw (to_z-of_z c.ranges.seconds, to_z-of_z (since_fits z (inside c)), since_1900 z (inside c))

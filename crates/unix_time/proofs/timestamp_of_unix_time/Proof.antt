@@ -1,6 +1,6 @@
 -- `unix_time::timestamp_of_unix_time` meets its contract: each test picks a row of the definition. Assumes nothing.
 use mathlib.Core.Path.{◌≡◌, sym, ap, ◌∙◌}
-use mathlib.Core.Bool.{true}
+use mathlib.Core.Bool.{true, not}
 use Prim.Native.Nat.{◌^◌, ◌<◌}
 use native.Mathlib.Omega.{arith}
 use borrow.Author.Rules.{rules}
@@ -20,38 +20,38 @@ use Rattle.unix_time.specs.declared.UnixTime.{UnixTime}
 use Rattle.unix_time.proofs.timestamp_of_unix_time.Statement.{statement}
 use Rattle.unix_time.proofs.timestamp_of_unix_time.Tie as tie
 
-returns : tie.Need-returns
+returns : tie.Need-returns-then-u-ge-SECOND
 unfolding timestamp_of
-returns c = simp (le-leb (10 ^ 9) c.before.before.args.u.nanoseconds (omega arith))
+returns c = simp (le-leb (10 ^ 9) c.args.u.nanoseconds (omega arith))
 
 -- what the first test and the calls ensure of the Unix time itself
-below : (c : tie.Else1) → c.before.before.args.u.nanoseconds < 10 ^ 9
+below : (c : tie.Else-u-ge-SECOND) → c.args.u.nanoseconds < 10 ^ 9
 below c = omega arith
 
-window : (c : tie.After-in-window) → c.in_window.result ≡ inside (from_year0 c.before.before.before.before.args.u.seconds)
+window : (c : tie.After-in_window) → c.in_window.result ≡ inside (from_year0 c.args.u.seconds)
 window c =
-    let f : SFits w64 c.before.before.before.before.args.u.seconds = search rules in
+    let f : SFits w64 c.args.u.seconds = search rules in
     c.in_window.ensures ∙ ap (λ z. inside (from_year0 z)) (to_z-of_z f)
 
-counted : (c : tie.After-from-seconds)
-    → let u = c.before.before.before.before.before.before.before.before.before.args.u in c.from-seconds.result ≡ timestamp_at u
+counted : (c : tie.After-from_seconds-t)
+    → let u = c.args.u in c.from_seconds-t.result ≡ timestamp_at u
 counted c =
     let e = c.before.before in
-    let f : SFits w64 e.before.before.before.before.before.before.before.args.u.seconds = search rules in
-    let s = e.era-seconds.ensures ∙ ap (λ z. era_seconds (nat_abs (from_year0 z))) (to_z-of_z f) in
-    c.from-seconds.ensures ∙ rw (s, c.before.fraction-of.ensures)
+    let f : SFits w64 e.args.u.seconds = search rules in
+    let s = e.era_seconds.ensures ∙ ap (λ z. era_seconds (nat_abs (from_year0 z))) (to_z-of_z f) in
+    c.from_seconds-t.ensures ∙ rw (s, c.fraction_of.ensures)
 
-returns-2 : tie.Need-returns-2
+returns-2 : tie.Need-returns-then-not-in_window
 unfolding timestamp_of
 returns-2 c =
     let w = c.before in
-    simp (lt-leb (10 ^ 9) _ (below w.before.before), sym (window w) ∙ not-true _ c.if2.true)
+    simp (lt-leb (10 ^ 9) _ (below w.before.before), sym (window w) ∙ not-true _ (ap not c.if-not-in_window.true))
 
-era-seconds-requires : tie.Need-era-seconds-requires
-era-seconds-requires c κs =
+era_seconds-requires : tie.Need-era_seconds-requires
+era_seconds-requires c κs =
     let w = c.before.before in
-    let f : SFits w64 w.before.before.before.before.args.u.seconds = search rules in
-    rw (to_z-of_z f) (sym (window w) ∙ not-false _ c.before.if2.false)
+    let f : SFits w64 w.args.u.seconds = search rules in
+    rw (to_z-of_z f) (sym (window w) ∙ not-false _ (ap not c.if-not-in_window.false))
 
 -- the last two rows
 rows : (u : UnixTime) (t : Timestamp) → u.nanoseconds < 10 ^ 9 → inside (from_year0 u.seconds) ≡ true → t ≡ timestamp_at u
@@ -59,18 +59,18 @@ rows : (u : UnixTime) (t : Timestamp) → u.nanoseconds < 10 ^ 9 → inside (fro
 unfolding timestamp_of
 rows u t h w e = rw e (simp (lt-leb (10 ^ 9) u.nanoseconds h, w))
 
-row : (c : tie.After-is-zero) → let t = c.before.from-seconds.result in let u = c.before.before.before.before.before.before.before.before.before.before.args.u in
+row : (c : tie.After-is_zero) → let t = c.from_seconds-t.result in let u = c.args.u in
     answer TimestampAnswer.Refused (timestamp_zero if is_zero t else otherwise (TimestampAnswer.Timestamp t)) ≡ timestamp_of u
 row c =
     let n = c.before.before.before.before.before in
     let w = n.before in
-    rows _ _ (below w.before.before) (sym (window w) ∙ not-false _ n.if2.false) (counted c.before)
+    rows _ _ (below w.before.before) (sym (window w) ∙ not-false _ (ap not n.if-not-in_window.false)) (counted c.before)
 
-returns-3 : tie.Need-returns-3
-returns-3 c = rw (sym c.before.is_zero.ensures ∙ c.if3.true) at (row c.before)
+returns-3 : tie.Need-returns-then-is_zero
+returns-3 c = rw (sym c.is_zero.ensures ∙ c.if-is_zero.true) at (row c.before)
 
-returns-4 : tie.Need-returns-4
-returns-4 c = rw (sym c.before.is_zero.ensures ∙ c.if3.false) at (row c.before)
+returns-4 : tie.Need-returns
+returns-4 c = rw (sym c.is_zero.ensures ∙ c.if-is_zero.false) at (row c.before)
 
 pub timestamp_of_unix_time_spec : {M : Type 1} → statement M
 timestamp_of_unix_time_spec =
@@ -80,7 +80,7 @@ timestamp_of_unix_time_spec =
     returns
     (λ c κs. search rules)
     returns-2
-    era-seconds-requires
+    era_seconds-requires
     (λ c κs. search rules)
     (λ c κs. search rules)
     (λ c κs. search rules)

@@ -7,16 +7,16 @@ use Rattle.unix_time.specs.UnixTime.{unix_time_of}
 use Rattle.unix_time.proofs.unix_time_of_timestamp.Statement.{statement}
 use Rattle.unix_time.proofs.unix_time_of_timestamp.Tie as tie
 
-returns : tie.Need-returns
+returns : tie.Need-returns-then-is_zero
 unfolding unix_time_of
-returns c = simp (sym c.before.is_zero.ensures ∙ c.if1.true)
+returns c = simp (sym c.is_zero.ensures ∙ c.if-is_zero.true)
 
-returns-2 : tie.Need-returns-2
+returns-2 : tie.Need-returns
 unfolding unix_time_of
 returns-2 c =
     let u = c.before.before in
     let z = u.before in
-    simp (sym z.before.is_zero.ensures ∙ z.if1.false, held_result w64 u.unix-second.type-inv u.unix-second.ensures) cc
+    simp (sym z.is_zero.ensures ∙ z.if-is_zero.false, held_result w64 u.unix_second.type_inv u.unix_second.ensures) cc
 
 pub unix_time_of_timestamp_spec : {M : Type 1} → statement M
 unix_time_of_timestamp_spec =

@@ -5,11 +5,11 @@ use Rattle.association_rules.specs.InUse.{use_after}
 use Rattle.association_rules.proofs.Alternate.use_after.Statement.{statement}
 use Rattle.association_rules.proofs.Alternate.use_after.Tie as tie
 
-returns-3 : tie.Need-returns-3
+returns-3 : tie.Need-returns-in-Kiss
 returns-3 c =
-    let m = c.before.before in
-    let s = m.before.before.args in
-    c.use-after-kiss.ensures ∙ sym (ap (λ a. use_after a s.self s.at s.in_use) m.answer3.given.1)
+    let m = c.before in
+    let s = m.args in
+    c.use_after_kiss.ensures ∙ sym (ap (λ a. use_after a s.self s.at s.in_use) m.in-Kiss.is)
 
 pub use_after_spec : {M : Type 1} → statement M
 use_after_spec =

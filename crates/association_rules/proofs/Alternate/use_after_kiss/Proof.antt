@@ -4,11 +4,11 @@ use borrow.Author.Tests.{eq-eqb, ne_eqb}
 use Rattle.association_rules.proofs.Alternate.use_after_kiss.Statement.{statement}
 use Rattle.association_rules.proofs.Alternate.use_after_kiss.Tie as tie
 
-returns : tie.Need-returns
-returns c = rw (c.before.before.self.given.1, eq-eqb _ _ c.if1.true)
+returns : tie.Need-returns-then-at-in_use
+returns c = rw (c.in-Record.is, eq-eqb _ _ c.if-at-in_use.true)
 
-returns-3 : tie.Need-returns-3
-returns-3 c = rw (c.before.before.self.given.1, ne_eqb _ _ c.if1.false)
+returns-3 : tie.Need-returns-else-at-in_use
+returns-3 c = rw (c.in-Record.is, ne_eqb _ _ c.if-at-in_use.false)
 
 pub use_after_kiss_spec : {M : Type 1} → statement M
 use_after_kiss_spec = tie.close (tie.spec (λ c. search rules) (λ c. search rules) returns (λ c. search rules) returns-3)

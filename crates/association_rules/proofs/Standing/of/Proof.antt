@@ -4,7 +4,7 @@ use Rattle.association_rules.proofs.Standing.of.Statement.{statement}
 use Rattle.association_rules.proofs.Standing.of.Tie as tie
 
 returns : tie.Need-returns
-returns c = rw (c.before.illegal.ensures, c.is-stopped.ensures)
+returns c = rw (c.illegal.ensures, c.is_stopped.ensures)
 
 pub of_spec : {M : Type 1} → statement M
 of_spec = tie.close (tie.spec (λ c κs. search rules) (λ c κs. search rules) returns)

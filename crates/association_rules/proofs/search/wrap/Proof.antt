@@ -6,13 +6,13 @@ use native.Mathlib.Omega.{arith}
 use Rattle.association_rules.proofs.search.wrap.Statement.{statement}
 use Rattle.association_rules.proofs.search.wrap.Tie as tie
 
-returns : tie.Need-returns
-returns c = sym (mod-eq_of_lt c.if1.true)
+returns : tie.Need-returns-then-i-count
+returns c = sym (mod-eq_of_lt c.if-i-count.true)
 
-returns-2 : tie.Need-returns-2
+returns-2 : tie.Need-returns
 returns-2 c =
-    let i = c.before.args.i in
-    let count = c.before.args.count in
+    let i = c.args.i in
+    let count = c.args.count in
     let past : count ≤ i = omega arith in
     let once : i - count < count = omega arith in
     sym (mod-eq-sub-mod past ∙ mod-eq_of_lt once)

@@ -9,13 +9,13 @@ use Rattle.association_rules.proofs.Records.{within}
 use Rattle.association_rules.proofs.standings.stopped_at.Statement.{statement}
 use Rattle.association_rules.proofs.standings.stopped_at.Tie as tie
 
-returns : tie.Need-returns
+returns : tie.Need-returns-then-at-ge8
 returns c =
-    let a = c.before.args in
-    let past : length a.t1 ≤ a.at = omega arith in
-    sym (get_or-eq_default a.t1 false past)
+    let a = c.args in
+    let past : length a.stopped ≤ a.at = omega arith in
+    sym (get_or-eq_default a.stopped false past)
 
-returns-2 : tie.Need-returns-2
+returns-2 : tie.Need-returns
 returns-2 c = search rules
 
 pub stopped_at_spec : {M : Type 1} → statement M

@@ -13,20 +13,20 @@ use Rattle.calendar.proofs.gregorian.days_in_month.Tie as tie
 closed : (year month : ℕ) → month ≤ 12 → days_in (leap_days year) month ≡ month_days (leap_days year) month
 closed year month h = days_in_lem (leap_days year) month (leap_small year) (omega (arith, h))
 
-returns-2 : tie.Need-returns-2
-returns-2 c = simp (eq-eqb _ _ c.if2.true) at (closed c.before.before.args.year c.before.before.args.month c.before.if1.false)
+returns-2 : tie.Need-returns-then-month-eq0
+returns-2 c = simp (eq-eqb _ _ c.if-month-eq0.true) at (closed c.args.year c.args.month c.if-month-gt12.false)
 
-returns-3 : tie.Need-returns-3
+returns-3 : tie.Need-returns-then-month-eq2
 returns-3 c =
-    let s = c.before.before.before.before.args in
-    rw c.leap-days.ensures.0
-    (simp (ne_eqb _ _ c.before.before.if2.false, eq-eqb _ _ c.before.if3.true) at (closed s.year s.month c.before.before.before.if1.false))
+    let s = c.args in
+    rw c.leap_days.ensures.0
+    (simp (ne_eqb _ _ c.if-month-eq0.false, eq-eqb _ _ c.if-month-eq2.true) at (closed s.year s.month c.if-month-gt12.false))
 
-returns-4 : tie.Need-returns-4
+returns-4 : tie.Need-returns
 returns-4 c =
-    let s = c.before.before.before.args in
-    simp (ne_eqb _ _ c.before.if2.false, ne_eqb _ _ c.if3.false) at (closed s.year s.month c.before.before.if1.false)
+    let s = c.args in
+    simp (ne_eqb _ _ c.if-month-eq0.false, ne_eqb _ _ c.if-month-eq2.false) at (closed s.year s.month c.if-month-gt12.false)
 
 pub days_in_month_spec : {M : Type 1} → statement M
 days_in_month_spec =
-    tie.close (tie.spec (λ c. sym (no_days_in _ _ c.if1.true)) returns-2 (λ c κs. search rules) (λ c. search rules) returns-3 (λ c. search rules) (λ c. search rules) returns-4)
+    tie.close (tie.spec (λ c. sym (no_days_in _ _ c.if-month-gt12.true)) returns-2 (λ c κs. search rules) (λ c. search rules) returns-3 (λ c. search rules) (λ c. search rules) returns-4)

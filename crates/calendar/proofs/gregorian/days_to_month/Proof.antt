@@ -5,18 +5,18 @@ use Rattle.calendar.proofs.Months.{days_to_lem}
 use Rattle.calendar.proofs.gregorian.days_to_month.Statement.{statement}
 use Rattle.calendar.proofs.gregorian.days_to_month.Tie as tie
 
-sub-result-2 : tie.Need-overflow-sub-result-2
+sub-result-2 : tie.Need-overflow_sub-result-2
 sub-result-2 c =
-    let s = c.before.before.args in
-    rw (c.days-before-year.ensures.0, c.before.after-february.ensures.0) (omega (arith, days_to_lem s.year s.month c.before.before.requires.2))
+    let s = c.args in
+    rw (c.days_before_year.ensures.0, c.after_february-after.ensures.0) (omega (arith, days_to_lem s.year s.month c.requires.2))
 
 returns : tie.Need-returns
 returns c =
-    let s = c.before.before.args in
-    let b = c.days-before-year.ensures.1 in
-    let a = c.before.after-february.ensures.1 in
-    let e = days_to_lem s.year s.month c.before.before.requires.2 in
-    (rw (c.days-before-year.ensures.0, c.before.after-february.ensures.0) (omega (arith, e)), omega (arith, a, b, c.before.before.requires))
+    let s = c.args in
+    let b = c.days_before_year.ensures.1 in
+    let a = c.after_february-after.ensures.1 in
+    let e = days_to_lem s.year s.month c.requires.2 in
+    (rw (c.days_before_year.ensures.0, c.after_february-after.ensures.0) (omega (arith, e)), omega (arith, a, b, c.requires))
 
 pub days_to_month_spec : {M : Type 1} → statement M
 days_to_month_spec =

@@ -5,21 +5,21 @@ use Rattle.calendar.specs.Gregorian.{leap_days}
 use Rattle.calendar.proofs.gregorian.leap_days.Statement.{statement}
 use Rattle.calendar.proofs.gregorian.leap_days.Tie as tie
 
-returns : tie.Need-returns
+returns : tie.Need-returns-then-year-ne0
 unfolding leap_days
-returns c = (simp (ne_eqb _ _ c.if1.true), omega arith)
+returns c = (simp (ne_eqb _ _ c.if-year-ne0.true), omega arith)
 
-returns-2 : tie.Need-returns-2
+returns-2 : tie.Need-returns-then-year-ne0-2
 unfolding leap_days
-returns-2 c = (simp (eq-eqb _ _ c.before.if1.false, ne_eqb _ _ c.if2.true), omega arith)
+returns-2 c = (simp (eq-eqb _ _ c.if-year-ne0.false, ne_eqb _ _ c.if-year-ne0-2.true), omega arith)
 
-returns-3 : tie.Need-returns-3
+returns-3 : tie.Need-returns-then-year-eq0
 unfolding leap_days
-returns-3 c = (simp (eq-eqb _ _ c.before.before.if1.false, eq-eqb _ _ c.before.if2.false, eq-eqb _ _ c.if3.true), omega arith)
+returns-3 c = (simp (eq-eqb _ _ c.if-year-ne0.false, eq-eqb _ _ c.if-year-ne0-2.false, eq-eqb _ _ c.if-year-eq0.true), omega arith)
 
-returns-4 : tie.Need-returns-4
+returns-4 : tie.Need-returns-else-year-eq0
 unfolding leap_days
-returns-4 c = (simp (eq-eqb _ _ c.before.before.if1.false, eq-eqb _ _ c.before.if2.false, ne_eqb _ _ c.if3.false), omega arith)
+returns-4 c = (simp (eq-eqb _ _ c.if-year-ne0.false, eq-eqb _ _ c.if-year-ne0-2.false, ne_eqb _ _ c.if-year-eq0.false), omega arith)
 
 pub leap_days_spec : {M : Type 1} → statement M
 leap_days_spec = tie.close (tie.spec returns returns-2 returns-3 returns-4)

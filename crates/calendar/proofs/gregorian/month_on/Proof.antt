@@ -5,11 +5,11 @@ use Rattle.calendar.proofs.Months.{month_of_lem}
 use Rattle.calendar.proofs.gregorian.month_on.Statement.{statement}
 use Rattle.calendar.proofs.gregorian.month_on.Tie as tie
 
-returns : tie.Need-returns
-returns c = simp (lt-ltb _ _ c.if1.true) at (month_of_lem _ _ c.before.requires.0 c.before.requires.1)
+returns : tie.Need-returns-then-k-extra
+returns c = simp (lt-ltb _ _ c.if-k-extra.true) at (month_of_lem _ _ c.requires.0 c.requires.1)
 
-returns-2 : tie.Need-returns-2
-returns-2 c = simp (le-ltb _ _ c.if1.false) at (month_of_lem _ _ c.before.requires.0 c.before.requires.1)
+returns-2 : tie.Need-returns-else-k-extra
+returns-2 c = simp (le-ltb _ _ c.if-k-extra.false) at (month_of_lem _ _ c.requires.0 c.requires.1)
 
 pub month_on_spec : {M : Type 1} → statement M
 month_on_spec =

@@ -4,11 +4,11 @@ use Rattle.client.specs.Arrival.{after_kiss}
 use Rattle.client.proofs.Client.after_kiss.Statement.{statement}
 use Rattle.client.proofs.Client.after_kiss.Tie as tie
 
-returns : tie.Need-returns
-returns c = c.without-request.ensures ∙ sym (ap (after_kiss c.before.before.args.self) c.before.if1.true)
+returns : tie.Need-returns-then-alternate
+returns c = c.without_request.ensures ∙ sym (ap (after_kiss c.args.self) c.if-alternate.true)
 
-returns-2 : tie.Need-returns-2
-returns-2 c = c.back-off.ensures ∙ sym (ap (after_kiss c.before.before.args.self) c.before.if1.false)
+returns-2 : tie.Need-returns
+returns-2 c = c.back_off.ensures ∙ sym (ap (after_kiss c.args.self) c.if-alternate.false)
 
 pub after_kiss_spec : {M : Type 1} → statement M
 after_kiss_spec = tie.close (tie.spec _ returns _ returns-2)

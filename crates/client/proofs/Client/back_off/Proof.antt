@@ -6,7 +6,7 @@ use Rattle.client.proofs.Client.back_off.Statement.{statement}
 use Rattle.client.proofs.Client.back_off.Tie as tie
 
 returns : tie.Need-returns
-returns c = c.without-request.ensures ∙ ap (without_request c.before.before.args.self Idle) c.before.backed-off.ensures
+returns c = c.without_request.ensures ∙ ap (without_request c.args.self Idle) c.backed_off.ensures
 
 pub back_off_spec : {M : Type 1} → statement M
 back_off_spec = tie.close (tie.spec _ _ returns)

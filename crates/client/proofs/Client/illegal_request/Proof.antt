@@ -47,9 +47,9 @@ returns c =
     let k = c.before.before in
     let t = k.before in
     let w = t.before in
-    let r = w.before.before.before.args.self in
+    let r = w.args.self in
     let v = version r.version in
-    rw (t.is_zero.ensures, k.is-zero2.ensures, w.is-waiting.ensures, v.0)
+    rw (t.is_zero.ensures, k.is_zero-2.ensures, w.is_waiting-waiting.ensures, v.0)
     (tests (is_waiting r.phase) (is_zero r.t1) (is_zero_token r.token) (eqb r.version 0) (ltb 4 r.version) v.1)
 
 pub illegal_request_spec : {M : Type 1} → statement M

@@ -5,14 +5,14 @@ use borrow.Author.Tests.{le-leb, lt-leb}
 use Rattle.hex_decode.proofs.Line.paired.Statement.{statement}
 use Rattle.hex_decode.proofs.Line.paired.Tie as tie
 
-returns : tie.Need-returns
+returns : tie.Need-returns-then-buffer-at
 returns c =
-    let full = le-leb _ _ c.before.if1.true in
+    let full = le-leb _ _ c.if-buffer-at.true in
     (c.refused.ensures ∙ rw full, rw full)
 
-returns-2 : tie.Need-returns-2
+returns-2 : tie.Need-returns
 returns-2 c =
-    let room = lt-leb _ _ c.before.if1.false in
+    let room = lt-leb _ _ c.if-buffer-at.false in
     (rw room, rw room)
 
 pub paired_spec : {M : Type 1} → statement M

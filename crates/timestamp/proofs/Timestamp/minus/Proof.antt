@@ -8,18 +8,18 @@ use Rattle.timestamp.proofs.Order.{order, none, half_bits, other_bits}
 use Rattle.timestamp.proofs.Timestamp.minus.Statement.{statement}
 use Rattle.timestamp.proofs.Timestamp.minus.Tie as tie
 
-difference_is : (c : tie.After-wrapping-sub-u64) → c.before.args.self since c.before.args.other ≡ signed 64 c.wrapping-sub-u64.result
+difference_is : (c : tie.After-wrapping_sub_u64-bits) → c.args.self since c.args.other ≡ signed 64 c.wrapping_sub_u64-bits.result
 unfolding ◌since◌
 difference_is c =
-    difference_wraps 64 c.wrapping-sub-u64.result c.before.args.self.0 c.before.args.other.0 (omega arith) c.wrapping-sub-u64.ensures
+    difference_wraps 64 c.wrapping_sub_u64-bits.result c.args.self.0 c.args.other.0 (omega arith) c.wrapping_sub_u64-bits.ensures
 
-returns : tie.Need-returns
-returns c = sym (rw (difference_is c.before, c.if1.true) (none _ half_bits))
+returns : tie.Need-returns-then-bits
+returns c = sym (rw (difference_is c.before, c.if-bits.true) (none _ half_bits))
 
-returns-2 : tie.Need-returns-2
+returns-2 : tie.Need-returns
 returns-2 c =
     let sub = c.before.before in
-    rw (held_result w64 c.signed64.type-inv c.signed64.ensures, difference_is sub) (sym (order _ (other_bits sub.wrapping-sub-u64.result (omega arith) c.before.if1.false)))
+    rw (held_result w64 c.signed64.type_inv c.signed64.ensures, difference_is sub) (sym (order _ (other_bits sub.wrapping_sub_u64-bits.result (omega arith) c.if-bits.false)))
 
 pub minus_spec : {M : Type 1} → statement M
 minus_spec = tie.close (tie.spec (λ c κs. search rules) returns (λ c κs. search rules) returns-2)
