@@ -7,14 +7,14 @@ use Rattle.firmware.specs.Client.{next_image}
 use Rattle.firmware.proofs.client_calls.end_call.Statement.{statement}
 use Rattle.firmware.proofs.client_calls.end_call.Tie as tie
 
-returns-2 : tie.Need-returns-2
+returns-2 : tie.Need-returns-in-Done
 returns-2 c =
     let write = c.before.before in
     let told = write.before.before in
-    let a = told.before.before.before.args in
-    let done = told.enum_told.given.1 in (
+    let a = told.args in
+    let done = told.in-Done.is in (
       sym (ap (λ z. number_of (said_call z)) done),
-      write.write-image.ensures ∙ sym (ap (λ z. next_image a.image.now (said_call z) a.called.client) done),
+      write.write_image.ensures ∙ sym (ap (λ z. next_image a.image.now (said_call z) a.called.client) done),
     )
 
 pub end_call_spec : {M : Type 1} → statement M

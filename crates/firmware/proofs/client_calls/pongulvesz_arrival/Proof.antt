@@ -11,39 +11,39 @@ use Rattle.firmware.proofs.Calls.{no_image, an_image}
 use Rattle.firmware.proofs.client_calls.pongulvesz_arrival.Statement.{statement}
 use Rattle.firmware.proofs.client_calls.pongulvesz_arrival.Tie as tie
 
-returns : tie.Need-returns
+returns : tie.Need-returns-in_default
 unfolding number image_after answer_after
 returns c =
-    let read = c.before.before in
-    let none = no_image _ (sym read.read-image.ensures ∙ c.enum_told.given.1) in
+    let read = c in
+    let none = no_image _ (sym read.read_image.ensures ∙ c.in_default.is) in
     (rw none, (rw none, rw none))
 
-returns-2 : tie.Need-returns-2
+returns-2 : tie.Need-returns-then-answer-ne-ANSWER
 unfolding number image_after answer_after
 returns-2 c =
-    let client = c.before.before in
-    let read = client.before.before in
-    let (is, _) = an_image _ _ (sym read.read-image.ensures ∙ client.client.given.1) in
-    let other = ne_eqb _ _ c.if1.true in
+    let client = c.before in
+    let read = client in
+    let (is, _) = an_image _ _ (sym read.read_image.ensures ∙ client.in-Client.is) in
+    let other = ne_eqb _ _ c.if-answer-ne-ANSWER.true in
     (rw (is, other), (rw (is, other), rw (is, other)))
 
-returns-3 : tie.Need-returns-3
+returns-3 : tie.Need-returns
 unfolding number image_after answer_after
 returns-3 c =
     let end = c.before.before.before.before in
     let arrival = end.before.before.before in
     let t4 = arrival.before in
     let fits = t4.before in
-    let client = fits.before.before in
-    let read = client.before.before in
-    let a = read.before.before.before.before.before.args in
-    let (is, record_is) = an_image _ _ (sym read.read-image.ensures ∙ client.client.given.1) in
-    let n = eq-eqb _ _ fits.if1.false in
-    let arrived = rw t4.from-units.ensures at arrival.arrival.ensures in (
-      rw (is, n, record_is) (end.end-arrival.ensures.0 ∙ ap (λ (z : Arrived). number_of (said_arrival z.answer)) arrived),
+    let client = fits.before in
+    let read = client in
+    let a = read.args in
+    let (is, record_is) = an_image _ _ (sym read.read_image.ensures ∙ client.in-Client.is) in
+    let n = eq-eqb _ _ fits.if-answer-ne-ANSWER.false in
+    let arrived = rw t4.from_units.ensures at arrival.arrival-arrived.ensures in (
+      rw (is, n, record_is) (end.end_arrival.ensures.0 ∙ ap (λ (z : Arrived). number_of (said_arrival z.answer)) arrived),
       (
-        rw (is, n, record_is) (end.end-arrival.ensures.1.0 ∙ ap (λ (z : Arrived). next_image a.image.now (said_arrival z.answer) z.client) arrived),
-        rw (is, n, record_is) (rw n at (end.end-arrival.ensures.1.1 ∙ ap (λ (z : Arrived). with_answer a.answer.now (said_arrival z.answer)) arrived)),
+        rw (is, n, record_is) (end.end_arrival.ensures.1.0 ∙ ap (λ (z : Arrived). next_image a.image.now (said_arrival z.answer) z.client) arrived),
+        rw (is, n, record_is) (rw n at (end.end_arrival.ensures.1.1 ∙ ap (λ (z : Arrived). with_answer a.answer.now (said_arrival z.answer)) arrived)),
       ),
     )
 

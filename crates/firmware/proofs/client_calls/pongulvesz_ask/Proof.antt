@@ -9,29 +9,29 @@ use Rattle.firmware.proofs.Calls.{no_image, an_image}
 use Rattle.firmware.proofs.client_calls.pongulvesz_ask.Statement.{statement}
 use Rattle.firmware.proofs.client_calls.pongulvesz_ask.Tie as tie
 
-returns : tie.Need-returns
+returns : tie.Need-returns-in_default
 unfolding number image_after buffer_after
 returns c =
-    let read = c.before.before in
-    let none = no_image _ (sym read.read-image.ensures ∙ c.enum_told.given.1) in
+    let read = c in
+    let none = no_image _ (sym read.read_image.ensures ∙ c.in_default.is) in
     (rw none, (rw none, rw none))
 
-returns-2 : tie.Need-returns-2
+returns-2 : tie.Need-returns
 unfolding number image_after buffer_after
 returns-2 c =
     let end = c.before.before in
     let ask = end.before.before.before.before in
     let clock = ask.before in
     let version = clock.before in
-    let client = version.before.before.before in
-    let read = client.before.before in
-    let a = read.before.before.before.before.args in
-    let (is, record_is) = an_image _ _ (sym read.read-image.ensures ∙ client.client.given.1) in
-    let called = rw (clock.from-units.ensures, version.narrow.ensures) at ask.ask.ensures.0 in
-    let written = rw (clock.from-units.ensures, version.narrow.ensures) at ask.ask.ensures.1 in (
-      rw (is, record_is) (end.end-call.ensures.0 ∙ ap (λ (z : Called). number_of (said_call z.answer)) called),
+    let client = version.before.before in
+    let read = client in
+    let a = read.args in
+    let (is, record_is) = an_image _ _ (sym read.read_image.ensures ∙ client.in-Client.is) in
+    let called = rw (clock.from_units.ensures, version.narrow.ensures) at ask.ask-called.ensures.0 in
+    let written = rw (clock.from_units.ensures, version.narrow.ensures) at ask.ask-called.ensures.1 in (
+      rw (is, record_is) (end.end_call.ensures.0 ∙ ap (λ (z : Called). number_of (said_call z.answer)) called),
       (
-        rw (is, record_is) (end.end-call.ensures.1 ∙ ap (λ (z : Called). next_image a.image.now (said_call z.answer) z.client) called),
+        rw (is, record_is) (end.end_call.ensures.1 ∙ ap (λ (z : Called). next_image a.image.now (said_call z.answer) z.client) called),
         rw (is, record_is) written,
       ),
     )

@@ -6,16 +6,16 @@ use Rattle.firmware_layouts.specs.Image.{with_image}
 use Rattle.firmware.proofs.client_calls.pongulvesz_fresh.Statement.{statement}
 use Rattle.firmware.proofs.client_calls.pongulvesz_fresh.Tie as tie
 
-returns : tie.Need-returns
-returns c = let n = ne_eqb _ _ c.if1.true in (rw n, rw n)
+returns : tie.Need-returns-then-image-ne-IMAGE
+returns c = let n = ne_eqb _ _ c.if-image-ne-IMAGE.true in (rw n, rw n)
 
-returns-2 : tie.Need-returns-2
+returns-2 : tie.Need-returns
 returns-2 c =
     let write = c.before.before in
     let fresh = write.before in
     let e = fresh.before.before in
-    let a = e.before.before.args in
-    (rw (eq-eqb _ _ e.if1.false), write.write-image.ensures ∙ ap (with_image a.image.now) fresh.fresh.ensures)
+    let a = e.args in
+    (rw (eq-eqb _ _ e.if-image-ne-IMAGE.false), write.write_image.ensures ∙ ap (with_image a.image.now) fresh.fresh.ensures)
 
 pub pongulvesz_fresh_spec : {M : Type 1} → statement M
 pongulvesz_fresh_spec =

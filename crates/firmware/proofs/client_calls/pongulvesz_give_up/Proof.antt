@@ -9,25 +9,25 @@ use Rattle.firmware.proofs.Calls.{no_image, an_image}
 use Rattle.firmware.proofs.client_calls.pongulvesz_give_up.Statement.{statement}
 use Rattle.firmware.proofs.client_calls.pongulvesz_give_up.Tie as tie
 
-returns : tie.Need-returns
+returns : tie.Need-returns-in_default
 unfolding number image_after
 returns c =
-    let read = c.before.before in
-    let none = no_image _ (sym read.read-image.ensures ∙ c.enum_told.given.1) in
+    let read = c in
+    let none = no_image _ (sym read.read_image.ensures ∙ c.in_default.is) in
     (rw none, rw none)
 
-returns-2 : tie.Need-returns-2
+returns-2 : tie.Need-returns
 unfolding number image_after
 returns-2 c =
     let end = c.before.before in
     let give_up = end.before.before in
-    let client = give_up.before.before in
-    let read = client.before.before in
-    let a = read.before.before.before.args in
-    let (is, record_is) = an_image _ _ (sym read.read-image.ensures ∙ client.client.given.1) in
-    let called = give_up.give-up.ensures in (
-      rw (is, record_is) (end.end-call.ensures.0 ∙ ap (λ (z : Called). number_of (said_call z.answer)) called),
-      rw (is, record_is) (end.end-call.ensures.1 ∙ ap (λ (z : Called). next_image a.image.now (said_call z.answer) z.client) called),
+    let client = give_up.before in
+    let read = client in
+    let a = read.args in
+    let (is, record_is) = an_image _ _ (sym read.read_image.ensures ∙ client.in-Client.is) in
+    let called = give_up.give_up-called.ensures in (
+      rw (is, record_is) (end.end_call.ensures.0 ∙ ap (λ (z : Called). number_of (said_call z.answer)) called),
+      rw (is, record_is) (end.end_call.ensures.1 ∙ ap (λ (z : Called). next_image a.image.now (said_call z.answer) z.client) called),
     )
 
 pub pongulvesz_give_up_spec : {M : Type 1} → statement M

@@ -11,29 +11,29 @@ use mir.Val.{SFits}
 use Rattle.firmware.proofs.numbers.narrow_signed.Statement.{statement}
 use Rattle.firmware.proofs.numbers.narrow_signed.Tie as tie
 
-below : (c : tie.Else1) → lt_z c.before.args.n (negsuc 127) ≡ false
-below c = rw (to_z-of_z c.before.ranges.n) at c.if1.false
+below : (c : tie.Else-n-ltminus128) → lt_z c.args.n (negsuc 127) ≡ false
+below c = rw (to_z-of_z c.ranges.n) at c.if-n-ltminus128.false
 
-above : (c : tie.Else2) → lt_z (pos 127) c.before.before.args.n ≡ false
-above c = rw (to_z-of_z c.before.before.ranges.n) at c.if2.false
+above : (c : tie.Else-n-gt127) → lt_z (pos 127) c.args.n ≡ false
+above c = rw (to_z-of_z c.ranges.n) at c.if-n-gt127.false
 
 held : (z : ℤ) → lt_z z (negsuc 127) ≡ false → lt_z (pos 127) z ≡ false → SFits w8 z
 held (pos n) a b = let h = ltb-false 127 n b in record { sfits = omega arith }
 held (negsuc n) a b = let h = ltb-false 127 n a in record { sfits = omega arith }
 
-returns : tie.Need-returns
-returns c = rw (rw (to_z-of_z c.before.ranges.n) at c.if1.true)
+returns : tie.Need-returns-then-n-ltminus128
+returns c = rw (rw (to_z-of_z c.ranges.n) at c.if-n-ltminus128.true)
 
-returns-2 : tie.Need-returns-2
-returns-2 c = rw (below c.before, rw (to_z-of_z c.before.before.ranges.n) at c.if2.true)
+returns-2 : tie.Need-returns-then-n-gt127
+returns-2 c = rw (below c.before, rw (to_z-of_z c.ranges.n) at c.if-n-gt127.true)
 
-cast-result : tie.Need-overflow-cast-result
-cast-result c = rw (to_z-of_z c.before.before.ranges.n) (held c.before.before.args.n (below c.before) (above c))
+cast-result : tie.Need-overflow_cast-result
+cast-result c = rw (to_z-of_z c.ranges.n) (held c.args.n (below c.before) (above c))
 
-returns-3 : tie.Need-returns-3
+returns-3 : tie.Need-returns
 returns-3 c =
-    let z = c.before.before.args.n in
-    rw (to_z-of_z c.before.before.ranges.n, to_z-of_z (held z (below c.before) (above c)), below c.before, above c)
+    let z = c.args.n in
+    rw (to_z-of_z c.ranges.n, to_z-of_z (held z (below c.before) (above c)), below c.before, above c)
 
 pub narrow_signed_spec : {M : Type 1} → statement M
 narrow_signed_spec =

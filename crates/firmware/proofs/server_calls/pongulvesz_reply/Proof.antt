@@ -12,9 +12,9 @@ returns c =
     let t3 = reply.before.before in
     let t2 = t3.before in
     let settings = t2.before in
-    let precision = to_z-of_z settings.before.before.before.ranges.precision in (
-      c.replied-number.ensures ∙ ap replied_number (rw (settings.settings-of.ensures, precision, t2.from-units.ensures, t3.from-units2.ensures) at reply.reply.ensures.0),
-      rw (settings.settings-of.ensures, precision, t2.from-units.ensures, t3.from-units2.ensures) at reply.reply.ensures.1,
+    let precision = to_z-of_z settings.ranges.precision in (
+      c.replied_number.ensures ∙ ap replied_number (rw (settings.settings_of-set.ensures, precision, t2.from_units.ensures, t3.from_units-2.ensures) at reply.reply-answer.ensures.0),
+      rw (settings.settings_of-set.ensures, precision, t2.from_units.ensures, t3.from_units-2.ensures) at reply.reply-answer.ensures.1,
     )
 
 pub pongulvesz_reply_spec : {M : Type 1} → statement M

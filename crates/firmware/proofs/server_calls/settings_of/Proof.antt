@@ -9,7 +9,7 @@ use Rattle.firmware.proofs.server_calls.settings_of.Tie as tie
 returns : tie.Need-returns
 returns c =
     let precision = c.before in
-    rw (c.from-units.ensures, held_result w8 precision.narrow_signed.type-inv precision.narrow_signed.ensures, to_z-of_z precision.before.before.ranges.precision, precision.before.narrow.ensures)
+    rw (c.from_units.ensures, held_result w8 precision.narrow_signed.type_inv precision.narrow_signed.ensures, to_z-of_z precision.ranges.precision, precision.narrow.ensures)
 
 pub settings_of_spec : {M : Type 1} → statement M
 settings_of_spec =
