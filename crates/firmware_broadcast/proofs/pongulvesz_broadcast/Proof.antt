@@ -24,17 +24,17 @@ called c =
     let t3 = c.before.before in
     let poll = t3.before in
     let version = poll.before in
-    rw (version.before.settings-of.ensures, to_z-of_z (start c).ranges.precision, version.narrow.ensures, poll.narrow2.ensures, t3.from-units.ensures) at c.write.ensures
+    rw (version.settings_of-set.ensures, to_z-of_z (start c).ranges.precision, version.narrow.ensures, poll.narrow-2.ensures, t3.from_units.ensures) at c.write.ensures
 
-returns : tie.Need-returns
+returns : tie.Need-returns-in-Refused
 returns c =
-    let (answer, buffer) = called c.before.before.before.before.before in
-    (sym (ap write_number (sym answer ∙ c.before.number.given.1)), buffer)
+    let (answer, buffer) = called c.before.before.before in
+    (sym (ap write_number (sym answer ∙ c.in-Refused.is)), buffer)
 
-returns-2 : tie.Need-returns-2
+returns-2 : tie.Need-returns-in-Written
 returns-2 c =
-    let (answer, buffer) = called c.before.before.before.before in
-    (sym (ap write_number (sym answer ∙ c.enum_told.given.1)), buffer)
+    let (answer, buffer) = called c.before.before.before in
+    (sym (ap write_number (sym answer ∙ c.in-Written.is)), buffer)
 
 pub pongulvesz_broadcast_spec : {M : Type 1} → statement M
 pongulvesz_broadcast_spec =

@@ -11,21 +11,21 @@ use Rattle.firmware_broadcast.proofs.pongulvesz_broadcast_arrival.Statement.{sta
 use Rattle.firmware_broadcast.proofs.pongulvesz_broadcast_arrival.Tie as tie
 
 -- what the inner call answers
-called : (c : tie.After-arrival) → let a = c.before.before.before.args in c.arrival.result ≡ broadcast_arrived a.packet.now (timestamp a.t4)
-called c = rw c.before.from-units.ensures at c.arrival.ensures
+called : (c : tie.After-arrival) → let a = c.args in c.arrival.result ≡ broadcast_arrived a.packet.now (timestamp a.t4)
+called c = rw c.from_units.ensures at c.arrival.ensures
 
-returns : tie.Need-returns
+returns : tie.Need-returns-in-Refused
 returns c =
-    let call = c.before.before.before in
-    let is = sym (called call) ∙ c.before.number.given.1 in
-    (sym (ap arrival_number is), sym (ap (difference_after call.before.before.before.args.difference.now) is))
+    let call = c.before in
+    let is = sym (called call) ∙ c.in-Refused.is in
+    (sym (ap arrival_number is), sym (ap (difference_after call.args.difference.now) is))
 
-returns-2 : tie.Need-returns-2
+returns-2 : tie.Need-returns-in-Difference
 returns-2 c =
-    let call = c.before.before.before in
-    let units : SFits w64 c.before.units.given.0.0 = search rules in
-    let is = sym (called call) ∙ c.before.units.given.1 in
-    (sym (ap arrival_number is), to_z-of_z units ∙ sym (ap (difference_after call.before.before.before.args.difference.now) is))
+    let call = c.before in
+    let units : SFits w64 c.in-Difference.units = search rules in
+    let is = sym (called call) ∙ c.in-Difference.is in
+    (sym (ap arrival_number is), to_z-of_z units ∙ sym (ap (difference_after call.args.difference.now) is))
 
 pub pongulvesz_broadcast_arrival_spec : {M : Type 1} → statement M
 pongulvesz_broadcast_arrival_spec =

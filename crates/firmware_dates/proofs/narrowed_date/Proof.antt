@@ -8,7 +8,7 @@ returns c =
     let minute = c.before in
     let hour = minute.before in
     let day = hour.before in
-    rw (c.narrow5.ensures, minute.narrow4.ensures, hour.narrow3.ensures, day.narrow2.ensures, day.before.narrow.ensures)
+    rw (c.narrow-5.ensures, minute.narrow-4.ensures, hour.narrow-3.ensures, day.narrow-2.ensures, day.narrow.ensures)
 
 pub narrowed_date_spec : {M : Type 1} → statement M
 narrowed_date_spec =

@@ -16,20 +16,20 @@ lent s =
     date a.year.now a.month.now a.day.now a.hour.now a.minute.now a.second.now a.fraction.now
 
 -- what the inner call answers
-called : (c : tie.After-date-of-timestamp) → c.date-of-timestamp.result ≡ date_of (timestamp c.before.before.args.timestamp)
-called c = rw c.before.from-units.ensures at c.date-of-timestamp.ensures
+called : (c : tie.After-date_of_timestamp) → c.date_of_timestamp.result ≡ date_of (timestamp c.args.timestamp)
+called c = rw c.from_units.ensures at c.date_of_timestamp.ensures
 
-returns : tie.Need-returns
+returns : tie.Need-returns-in-Refused
 returns c =
-    let call = c.before.before.before in
-    let is = sym (called call) ∙ c.before.number.given.1 in
+    let call = c.before in
+    let is = sym (called call) ∙ c.in-Refused.is in
     (sym (ap date_number is), sym (ap (date_after (lent call.before.before)) is))
 
-returns-2 : tie.Need-returns-2
+returns-2 : tie.Need-returns-in-Date
 returns-2 c =
-    let d = c.before.before.before.before.before.before in
-    let call = d.before.before in
-    let is = sym (called call) ∙ d.d.given.1 in
+    let d = c.before.before.before.before.before in
+    let call = d.before in
+    let is = sym (called call) ∙ d.in-Date.is in
     (sym (ap date_number is), sym (ap (date_after (lent call.before.before)) is))
 
 pub pongulvesz_date_spec : {M : Type 1} → statement M

@@ -14,20 +14,20 @@ abbrev told : tie.Start → Date
 told s = let a = s.args in date a.year a.month a.day a.hour a.minute a.second a.fraction
 
 -- what the inner call answers
-called : (c : tie.After-timestamp-of-date) → c.timestamp-of-date.result ≡ timestamp_of (narrowed (told c.before.before))
-called c = rw c.before.narrowed-date.ensures at c.timestamp-of-date.ensures
+called : (c : tie.After-timestamp_of_date) → c.timestamp_of_date.result ≡ timestamp_of (narrowed (told c.before.before))
+called c = rw c.narrowed_date-d.ensures at c.timestamp_of_date.ensures
 
-returns : tie.Need-returns
+returns : tie.Need-returns-in-Refused
 returns c =
-    let call = c.before.before.before in
-    let is = sym (called call) ∙ c.before.number.given.1 in
-    (sym (ap timestamp_number is), sym (ap (timestamp_after call.before.before.args.timestamp.now) is))
+    let call = c.before in
+    let is = sym (called call) ∙ c.in-Refused.is in
+    (sym (ap timestamp_number is), sym (ap (timestamp_after call.args.timestamp.now) is))
 
-returns-2 : tie.Need-returns-2
+returns-2 : tie.Need-returns-in-Timestamp
 returns-2 c =
-    let call = c.before.before.before in
-    let is = sym (called call) ∙ c.before.t.given.1 in
-    (sym (ap timestamp_number is), sym (ap (timestamp_after call.before.before.args.timestamp.now) is))
+    let call = c.before in
+    let is = sym (called call) ∙ c.in-Timestamp.is in
+    (sym (ap timestamp_number is), sym (ap (timestamp_after call.args.timestamp.now) is))
 
 pub pongulvesz_timestamp_of_date_spec : {M : Type 1} → statement M
 pongulvesz_timestamp_of_date_spec =

@@ -7,22 +7,22 @@ use Rattle.firmware_due.proofs.Image.{not_read, is_read}
 use Rattle.firmware_due.proofs.pongulvesz_give_up_due.Statement.{statement}
 use Rattle.firmware_due.proofs.pongulvesz_give_up_due.Tie as tie
 
-returns : tie.Need-returns
+returns : tie.Need-returns-in_default
 unfolding give_up_due
 returns c =
-    let read = c.before.before in
-    let a = read.before.before.args in
-    let none = sym (not_read inner.give_up_due_tests a.image.now (sym read.read-image.ensures ∙ c.enum_told.given.1)) in
+    let read = c.before in
+    let a = read.args in
+    let none = sym (not_read inner.give_up_due_tests a.image.now (sym read.read_image.ensures ∙ c.in_default.is)) in
     (ap number_of none, ap (uptime_after a.uptime.now) none)
 
-returns-2 : tie.Need-returns-2
+returns-2 : tie.Need-returns
 unfolding give_up_due inner.give_up_due
 returns-2 c =
     let call = c.before.before in
-    let client = call.before.before in
-    let read = client.before.before in
-    let a = read.before.before.args in
-    let is = call.give-up-due.ensures ∙ sym (is_read inner.give_up_due_tests a.image.now _ (sym read.read-image.ensures ∙ client.client.given.1)) in
+    let client = call.before in
+    let read = client in
+    let a = read.args in
+    let is = call.give_up_due.ensures ∙ sym (is_read inner.give_up_due_tests a.image.now _ (sym read.read_image.ensures ∙ client.in-Client.is)) in
     (c.tell.ensures.0 ∙ ap number_of is, c.tell.ensures.1 ∙ ap (uptime_after a.uptime.now) is)
 
 pub pongulvesz_give_up_due_spec : {M : Type 1} → statement M

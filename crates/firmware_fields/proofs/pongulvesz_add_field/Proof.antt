@@ -13,29 +13,29 @@ abbrev start : tie.After-add → tie.Start
 start c = c.before.before.before.before.before.before
 
 -- the type has 16 bits
-fits : (c : tie.After-add) → ltb 65535 (start c).args.field-type ≡ false
-fits c = le-ltb _ _ c.before.before.before.if1.false
+fits : (c : tie.After-add) → ltb 65535 (start c).args.field_type ≡ false
+fits c = le-ltb _ _ c.if-field_type-gt65535.false
 
 -- what the inner call answers, and the buffer after it
-called : (c : tie.After-add) → let a = (start c).args in c.add.result ≡ add_answer a.buffer.now a.size.now a.field-type a.body.now
+called : (c : tie.After-add) → let a = (start c).args in c.add.result ≡ add_answer a.buffer.now a.size.now a.field_type a.body.now
 called c = rw (fits c) c.add.ensures.0
 
-written : (c : tie.After-add) → let a = (start c).args in c.add.new.0 ≡ buffer_after a.buffer.now a.size.now a.field-type a.body.now
+written : (c : tie.After-add) → let a = (start c).args in c.add.new-1.0 ≡ buffer_after a.buffer.now a.size.now a.field_type a.body.now
 written c = rw (fits c) c.add.ensures.1
 
-returns : tie.Need-returns
-returns c = let large = lt-ltb _ _ c.if1.true in (rw large, (rw large, rw large))
+returns : tie.Need-returns-then-field_type-gt65535
+returns c = let large = lt-ltb _ _ c.if-field_type-gt65535.true in (rw large, (rw large, rw large))
 
-returns-2 : tie.Need-returns-2
+returns-2 : tie.Need-returns-in-Refused
 returns-2 c =
-    let call = c.before.before.before.before.before in
-    let is = sym (called call) ∙ c.before.number.given.1 in
+    let call = c.before.before.before in
+    let is = sym (called call) ∙ c.in-Refused.is in
     (sym (ap add_number is), (sym (ap (size_after (start call).args.size.now) is), written call))
 
-returns-3 : tie.Need-returns-3
+returns-3 : tie.Need-returns-in-Added
 returns-3 c =
-    let call = c.before.before.before.before.before in
-    let is = sym (called call) ∙ c.before.new.given.1 in
+    let call = c.before.before.before in
+    let is = sym (called call) ∙ c.in-Added.is in
     (sym (ap add_number is), (sym (ap (size_after (start call).args.size.now) is), written call))
 
 pub pongulvesz_add_field_spec : {M : Type 1} → statement M

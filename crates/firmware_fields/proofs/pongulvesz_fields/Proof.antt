@@ -5,17 +5,17 @@ use Rattle.firmware_fields.specs.Fields.{begin_number, cursor_after}
 use Rattle.firmware_fields.proofs.pongulvesz_fields.Statement.{statement}
 use Rattle.firmware_fields.proofs.pongulvesz_fields.Tie as tie
 
-returns : tie.Need-returns
+returns : tie.Need-returns-in-Refused
 returns c =
-    let begin = c.before.before.before in
-    let is = sym begin.begin.ensures ∙ c.before.number.given.1 in
-    (sym (ap begin_number is), sym (ap (cursor_after begin.before.before.args.cursor.now) is))
+    let begin = c.before in
+    let is = sym begin.begin.ensures ∙ c.in-Refused.is in
+    (sym (ap begin_number is), sym (ap (cursor_after begin.args.cursor.now) is))
 
-returns-2 : tie.Need-returns-2
+returns-2 : tie.Need-returns-in-Begun
 returns-2 c =
-    let begin = c.before.before.before in
-    let is = sym begin.begin.ensures ∙ c.before.first.given.1 in
-    (sym (ap begin_number is), sym (ap (cursor_after begin.before.before.args.cursor.now) is))
+    let begin = c.before in
+    let is = sym begin.begin.ensures ∙ c.in-Begun.is in
+    (sym (ap begin_number is), sym (ap (cursor_after begin.args.cursor.now) is))
 
 pub pongulvesz_fields_spec : {M : Type 1} → statement M
 pongulvesz_fields_spec =

@@ -7,24 +7,24 @@ use Rattle.firmware_fields.proofs.pongulvesz_next_field.Tie as tie
 
 -- the numbers lent
 abbrev lent : tie.Start → Numbers
-lent s = let a = s.args in numbers a.cursor.now a.found.now a.field-type.now a.start.now a.end.now
+lent s = let a = s.args in numbers a.cursor.now a.found.now a.field_type.now a.start.now a.end.now
 
-returns : tie.Need-returns
+returns : tie.Need-returns-in-Field
 returns c =
-    let next = c.before.before.before in
-    let is = sym next.next.ensures ∙ c.before.of-type.given.1 in
+    let next = c.before in
+    let is = sym next.next.ensures ∙ c.in-Field.is in
     (sym (ap next_number is), sym (ap (numbers_after (lent next.before.before.before)) is))
 
-returns-2 : tie.Need-returns-2
+returns-2 : tie.Need-returns-in-Done
 returns-2 c =
-    let next = c.before.before in
-    let is = sym next.next.ensures ∙ c.enum_told.given.1 in
+    let next = c.before in
+    let is = sym next.next.ensures ∙ c.in-Done.is in
     (sym (ap next_number is), sym (ap (numbers_after (lent next.before.before.before)) is))
 
-returns-3 : tie.Need-returns-3
+returns-3 : tie.Need-returns-in-Refused
 returns-3 c =
-    let next = c.before.before.before in
-    let is = sym next.next.ensures ∙ c.before.number.given.1 in
+    let next = c.before in
+    let is = sym next.next.ensures ∙ c.in-Refused.is in
     (sym (ap next_number is), sym (ap (numbers_after (lent next.before.before.before)) is))
 
 pub pongulvesz_next_field_spec : {M : Type 1} → statement M

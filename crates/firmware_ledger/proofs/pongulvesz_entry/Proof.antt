@@ -11,27 +11,27 @@ use Rattle.firmware_ledger.proofs.pongulvesz_entry.Statement.{statement}
 use Rattle.firmware_ledger.proofs.pongulvesz_entry.Tie as tie
 
 -- what the inner call answers
-called : (c : tie.After-entry) → c.entry.result ≡ entry_of c.before.before.before.args.debt.now c.before.before.before.args.offset c.before.before.before.args.half
+called : (c : tie.After-entry-entered) → c.entry-entered.result ≡ entry_of c.args.debt.now c.args.offset c.args.half
 called c =
-    let start = c.before.before.before in
+    let start = c in
     let debt : SFits w64 start.args.debt.now = search rules in
-    rw (to_z-of_z debt, to_z-of_z start.ranges.offset, c.before.narrow.ensures) at c.entry.ensures
+    rw (to_z-of_z debt, to_z-of_z start.ranges.offset, c.narrow.ensures) at c.entry-entered.ensures
 
-stored : (c : tie.After-entry) → SFits w64 c.entry.result.ledger.debt
+stored : (c : tie.After-entry-entered) → SFits w64 c.entry-entered.result.ledger.debt
 stored c = search rules
 
-returns : tie.Need-returns
+returns : tie.Need-returns-in-Refused
 returns c =
-    let call = c.before.before.before.before in
+    let call = c.before.before in
     let is = called call in
-    let told = sym (ap (λ (e : Entered). e.answer) is) ∙ c.before.answer.given.1 in
+    let told = sym (ap (λ (e : Entered). e.answer) is) ∙ c.in-Refused.is in
     (sym (ap number_in_entry told), to_z-of_z (stored call) ∙ ap (λ (e : Entered). e.ledger.debt) is)
 
-returns-2 : tie.Need-returns-2
+returns-2 : tie.Need-returns-in-Taken
 returns-2 c =
-    let call = c.before.before.before in
+    let call = c.before.before in
     let is = called call in
-    let told = sym (ap (λ (e : Entered). e.answer) is) ∙ c.enum_told.given.1 in
+    let told = sym (ap (λ (e : Entered). e.answer) is) ∙ c.in-Taken.is in
     (sym (ap number_in_entry told), to_z-of_z (stored call) ∙ ap (λ (e : Entered). e.ledger.debt) is)
 
 pub pongulvesz_entry_spec : {M : Type 1} → statement M

@@ -8,41 +8,41 @@ use borrow.Author.Rules.{rules}
 use Rattle.firmware_packets.proofs.fields_in.Statement.{statement}
 use Rattle.firmware_packets.proofs.fields_in.Tie as tie
 
-small : (s : tie.Start) → Narrow s.args.t1
-small s = narrow s.args.t1 s.requires
+small : (s : tie.Start) → Narrow s.args.n
+small s = narrow s.args.n s.requires
 
-cast-t6 : tie.Need-overflow-cast-t6
+cast-t6 : tie.Need-overflow_cast-result
 cast-t6 c = record { fits = omega (arith, (small c).0.0) }
 
-cast-t10 : tie.Need-overflow-cast-t10
+cast-t10 : tie.Need-overflow_cast-result-2
 cast-t10 c = record { fits = omega (arith, (small c).0.1) }
 
-cast-t14 : tie.Need-overflow-cast-t14
+cast-t14 : tie.Need-overflow_cast-result-3
 cast-t14 c = record { fits = omega (arith, (small c).0.2) }
 
-cast-t18 : tie.Need-overflow-cast-t18
+cast-t18 : tie.Need-overflow_cast-result-4
 cast-t18 c = record { fits = omega (arith, (small c).1.0) }
 
-cast-t22 : tie.Need-overflow-cast-t22
+cast-t22 : tie.Need-overflow_cast-result-5
 cast-t22 c = record { fits = omega (arith, (small c).1.1) }
 
-cast-signed8 : tie.Need-overflow-cast-signed8
+cast-signed8 : tie.Need-overflow_cast-n
 cast-signed8 c = record { fits = omega (arith, (small c).1.2) }
 
-cast-signed32 : tie.Need-overflow-cast-signed32
+cast-signed32 : tie.Need-overflow_cast-n-2
 cast-signed32 c = record { fits = omega (arith, (small c.before).2.0) }
 
-cast-t36 : tie.Need-overflow-cast-t36
+cast-t36 : tie.Need-overflow_cast-result-6
 cast-t36 c = record { fits = omega (arith, (small c.before.before).2.1) }
 
-cast-t40 : tie.Need-overflow-cast-t40
+cast-t40 : tie.Need-overflow_cast-result-7
 cast-t40 c = record { fits = omega (arith, (small c.before.before).2.2) }
 
 returns : tie.Need-returns
 unfolding fields_in
 returns c =
-    let signed8 = c.before in
-    rw (held_result w32 c.signed32.type-inv c.signed32.ensures, held_result w8 signed8.signed8.type-inv signed8.signed8.ensures)
+    let signed8 = c in
+    rw (held_result w32 c.signed32.type_inv c.signed32.ensures, held_result w8 signed8.signed8.type_inv signed8.signed8.ensures)
 
 pub fields_in_spec : {M : Type 1} → statement M
 fields_in_spec =

@@ -10,10 +10,10 @@ use Rattle.firmware_packets.proofs.numbers_of.Tie as tie
 returns : tie.Need-returns
 unfolding numbers_of
 returns c =
-    let s = c.before.before.before.before.before.before.before.before.before.before.before in
+    let s = c in
     let precision : SFits w8 s.args.fields.precision = search rules in
     let delay : SFits w32 s.args.fields.root_delay = search rules in
-    rw (c.before.before.bits32.ensures, c.before.before.before.before.bits8.ensures, to_z-of_z precision, to_z-of_z delay)
+    rw (c.bits32.ensures, c.bits8.ensures, to_z-of_z precision, to_z-of_z delay)
 
 pub numbers_of_spec : {M : Type 1} → statement M
 numbers_of_spec =

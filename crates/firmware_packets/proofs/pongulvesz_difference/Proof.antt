@@ -8,20 +8,20 @@ use Rattle.firmware_packets.specs.Packets.{difference_number, difference_after}
 use Rattle.firmware_packets.proofs.pongulvesz_difference.Statement.{statement}
 use Rattle.firmware_packets.proofs.pongulvesz_difference.Tie as tie
 
-returns : tie.Need-returns
+returns : tie.Need-returns-in-NoOrder
 returns c =
-    let call = c.before.before in
-    let a = call.before.args in
-    let is = sym call.minus.ensures ∙ c.enum_told.given.1 in
+    let call = c.before in
+    let a = call.args in
+    let is = sym call.minus.ensures ∙ c.in-NoOrder.is in
     (sym (ap difference_number is), sym (ap (difference_after a.difference.now) is))
 
-returns-2 : tie.Need-returns-2
+returns-2 : tie.Need-returns-in-Units
 returns-2 c =
-    let told = c.before in
-    let call = told.before.before in
-    let a = call.before.args in
-    let units : SFits w64 told.units.given.0.0 = search rules in
-    let is = sym call.minus.ensures ∙ told.units.given.1 in
+    let told = c in
+    let call = told in
+    let a = call.args in
+    let units : SFits w64 told.in-Units.units = search rules in
+    let is = sym call.minus.ensures ∙ told.in-Units.is in
     (sym (ap difference_number is), to_z-of_z units ∙ sym (ap (difference_after a.difference.now) is))
 
 pub pongulvesz_difference_spec : {M : Type 1} → statement M

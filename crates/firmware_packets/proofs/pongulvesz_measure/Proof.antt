@@ -8,22 +8,22 @@ use Rattle.firmware_packets.specs.Packets.{measure_number, offset_after, half_af
 use Rattle.firmware_packets.proofs.pongulvesz_measure.Statement.{statement}
 use Rattle.firmware_packets.proofs.pongulvesz_measure.Tie as tie
 
-returns : tie.Need-returns
+returns : tie.Need-returns-in-Refused
 returns c =
-    let told = c.before in
-    let call = told.before.before in
-    let a = call.before.args in
-    let is = sym call.measure.ensures ∙ told.answer.given.1 in
+    let told = c in
+    let call = told in
+    let a = call.args in
+    let is = sym call.measure-answer.ensures ∙ told.in-Refused.is in
     (sym (ap measure_number is), (sym (ap (offset_after a.offset.now) is), (sym (ap (half_after a.half.now) is), sym (ap (delay_after a.delay.now) is))))
 
-returns-2 : tie.Need-returns-2
+returns-2 : tie.Need-returns-in-Measured
 returns-2 c =
-    let told = c.before in
-    let call = told.before.before in
-    let a = call.before.args in
-    let o : SFits w64 told.answer2.given.0.0 = search rules in
-    let d : SFits w64 told.answer2.given.0.1.1.0 = search rules in
-    let is = sym call.measure.ensures ∙ told.answer2.given.1 in
+    let told = c in
+    let call = told in
+    let a = call.args in
+    let o : SFits w64 told.in-Measured.o = search rules in
+    let d : SFits w64 told.in-Measured.d = search rules in
+    let is = sym call.measure-answer.ensures ∙ told.in-Measured.is in
     (sym (ap measure_number is), (to_z-of_z o ∙ sym (ap (offset_after a.offset.now) is), (sym (ap (half_after a.half.now) is), to_z-of_z d ∙ sym (ap (delay_after a.delay.now) is))))
 
 pub pongulvesz_measure_spec : {M : Type 1} → statement M

@@ -5,20 +5,20 @@ use Rattle.firmware_packets.specs.Packets.{read_number, fields_after}
 use Rattle.firmware_packets.proofs.pongulvesz_read_fields.Statement.{statement}
 use Rattle.firmware_packets.proofs.pongulvesz_read_fields.Tie as tie
 
-returns : tie.Need-returns
+returns : tie.Need-returns-in-Refused
 returns c =
-    let told = c.before in
-    let read = told.before.before in
-    let a = read.before.before.args in
-    let is = sym read.read.ensures ∙ told.number.given.1 in
+    let told = c in
+    let read = told in
+    let a = read.args in
+    let is = sym read.read.ensures ∙ told.in-Refused.is in
     (sym (ap read_number is), sym (ap (fields_after a.fields.now) is))
 
-returns-2 : tie.Need-returns-2
+returns-2 : tie.Need-returns-in-Fields
 returns-2 c =
-    let told = c.before.before in
-    let read = told.before.before in
-    let a = read.before.before.args in
-    let is = sym read.read.ensures ∙ told.f.given.1 in
+    let told = c.before in
+    let read = told in
+    let a = read.args in
+    let is = sym read.read.ensures ∙ told.in-Fields.is in
     (sym (ap read_number is), c.Numbers-of.ensures ∙ sym (ap (fields_after a.fields.now) is))
 
 pub pongulvesz_read_fields_spec : {M : Type 1} → statement M

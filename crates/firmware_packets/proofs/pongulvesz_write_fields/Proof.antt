@@ -13,19 +13,19 @@ use Rattle.firmware_packets.specs.Packets.{too_wide, fields_in, number_of}
 use Rattle.firmware_packets.proofs.pongulvesz_write_fields.Statement.{statement}
 use Rattle.firmware_packets.proofs.pongulvesz_write_fields.Tie as tie
 
-returns : tie.Need-returns
+returns : tie.Need-returns-then-buffer-lt-LENGTH
 returns c =
-    let short = lt-ltb _ _ c.if1.true in
+    let short = lt-ltb _ _ c.if-buffer-lt-LENGTH.true in
     (rw short, rw short)
 
-returns-2 : tie.Need-returns-2
+returns-2 : tie.Need-returns-then-too_wide
 returns-2 c =
-    let long = le-ltb _ _ c.before.before.before.if1.false in
-    let wide = sym c.before.too_wide.ensures ∙ c.if2.true in
+    let long = le-ltb _ _ c.if-buffer-lt-LENGTH.false in
+    let wide = sym c.too_wide.ensures ∙ c.if-too_wide.true in
     (rw (long, wide), rw (long, wide))
 
-fields-in-requires : tie.Need-fields-in-requires
-fields-in-requires c κs = sym c.before.before.too_wide.ensures ∙ c.before.if2.false
+fields_in-requires : tie.Need-fields_in-requires
+fields_in-requires c κs = sym c.too_wide.ensures ∙ c.if-too_wide.false
 
 -- where neither test holds, the table gives its last answer, and the buffer is the new one
 answers : {A : Type 0} (say : ℕ → A) (m n : ℕ) (a b : Bool) (x : A) → a ≡ false → b ≡ false → answer say (m if a else n if b else otherwise x) ≡ x
@@ -35,25 +35,25 @@ writes : (m n : ℕ) (a b : Bool) (old new : List ℕ) → a ≡ false → b ≡
 writes m n a b old new e f = rw (e, f)
 
 -- neither test holds; what the inner call answers, and the buffer after it
-called : (c : tie.After-write) → let a = c.before.before.before.before.before.before.before.before.args in
+called : (c : tie.After-write) → let a = c.args in
     (ltb (length a.buffer.now) packet_length ≡ false)
     × (too_wide a.fields.now ≡ false)
     × (c.write.result ≡ write_answer a.buffer.now (fields_in a.fields.now))
-    × (c.write.new.0 ≡ written a.buffer.now (fields_in a.fields.now))
+    × (c.write.new.buffer ≡ written a.buffer.now (fields_in a.fields.now))
 called c =
     let narrow = c.before.before.before in
-    let (told, buffer) = rw c.before.fields_in.ensures at c.write.ensures in
-    (le-ltb _ _ narrow.before.before.before.if1.false, sym narrow.before.too_wide.ensures ∙ narrow.if2.false, told, buffer)
+    let (told, buffer) = rw c.fields_in.ensures at c.write.ensures in
+    (le-ltb _ _ narrow.if-buffer-lt-LENGTH.false, sym narrow.too_wide.ensures ∙ narrow.if-too_wide.false, told, buffer)
 
-returns-3 : tie.Need-returns-3
+returns-3 : tie.Need-returns-in-Refused
 returns-3 c =
-    let (long, small, told, buffer) = called c.before.before.before.before.before in
-    (sym (answers _ _ _ _ _ _ long small ∙ ap number_of (sym told ∙ c.before.number.given.1)), buffer ∙ sym (writes _ _ _ _ _ _ long small))
+    let (long, small, told, buffer) = called c.before.before.before in
+    (sym (answers _ _ _ _ _ _ long small ∙ ap number_of (sym told ∙ c.in-Refused.is)), buffer ∙ sym (writes _ _ _ _ _ _ long small))
 
-returns-4 : tie.Need-returns-4
+returns-4 : tie.Need-returns-in-Written
 returns-4 c =
-    let (long, small, told, buffer) = called c.before.before.before.before in
-    (sym (answers _ _ _ _ _ _ long small ∙ ap number_of (sym told ∙ c.enum_told.given.1)), buffer ∙ sym (writes _ _ _ _ _ _ long small))
+    let (long, small, told, buffer) = called c.before.before.before in
+    (sym (answers _ _ _ _ _ _ long small ∙ ap number_of (sym told ∙ c.in-Written.is)), buffer ∙ sym (writes _ _ _ _ _ _ long small))
 
 pub pongulvesz_write_fields_spec : {M : Type 1} → statement M
 pongulvesz_write_fields_spec =
@@ -64,7 +64,7 @@ pongulvesz_write_fields_spec =
     (λ c κs. search rules)
     (λ c. search rules)
     returns-2
-    fields-in-requires
+    fields_in-requires
     (λ c κs. search rules)
     (λ c. search rules)
     (λ c. search rules)

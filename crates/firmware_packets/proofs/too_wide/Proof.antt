@@ -4,7 +4,7 @@ use Rattle.firmware_packets.proofs.too_wide.Statement.{statement}
 use Rattle.firmware_packets.proofs.too_wide.Tie as tie
 
 returns : tie.Need-returns
-returns c = rw (c.is-above3.ensures, c.before.is-above2.ensures, c.before.before.is-above.ensures)
+returns c = rw (c.is_above-3.ensures, c.is_above-2.ensures, c.is_above.ensures)
 
 pub too_wide_spec : {M : Type 1} → statement M
 too_wide_spec =

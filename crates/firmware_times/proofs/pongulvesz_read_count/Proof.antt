@@ -5,20 +5,20 @@ use borrow.Author.Rules.{rules}
 use Rattle.firmware_times.proofs.pongulvesz_read_count.Statement.{statement}
 use Rattle.firmware_times.proofs.pongulvesz_read_count.Tie as tie
 
-returns : tie.Need-returns
+returns : tie.Need-returns-in-Refused
 returns c =
-    let told = c.before in
-    let read = told.before.before in
-    let a = read.before.before.args in
-    let is = sym read.read.ensures ∙ told.number.given.1 in
+    let told = c in
+    let read = told in
+    let a = read.args in
+    let is = sym read.read.ensures ∙ told.in-Refused.is in
     (sym (ap count_number is), sym (ap (count_after a.count.now) is))
 
-returns-2 : tie.Need-returns-2
+returns-2 : tie.Need-returns-in-Count
 returns-2 c =
-    let told = c.before in
-    let read = told.before.before in
-    let a = read.before.before.args in
-    let is = sym read.read.ensures ∙ told.n.given.1 in
+    let told = c in
+    let read = told in
+    let a = read.args in
+    let is = sym read.read.ensures ∙ told.in-Count.is in
     (sym (ap count_number is), sym (ap (count_after a.count.now) is))
 
 pub pongulvesz_read_count_spec : {M : Type 1} → statement M

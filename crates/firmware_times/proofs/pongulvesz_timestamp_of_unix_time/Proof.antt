@@ -6,22 +6,22 @@ use borrow.Author.Rules.{rules}
 use Rattle.firmware_times.proofs.pongulvesz_timestamp_of_unix_time.Statement.{statement}
 use Rattle.firmware_times.proofs.pongulvesz_timestamp_of_unix_time.Tie as tie
 
-returns : tie.Need-returns
+returns : tie.Need-returns-in-Refused
 returns c =
-    let told = c.before in
-    let call = told.before.before in
-    let a = call.before.args in
-    let answer = rw (to_z-of_z call.before.ranges.seconds) at call.timestamp-of-unix-time.ensures in
-    let is = sym answer ∙ told.number.given.1 in
+    let told = c in
+    let call = told in
+    let a = call.args in
+    let answer = rw (to_z-of_z call.ranges.seconds) at call.timestamp_of_unix_time.ensures in
+    let is = sym answer ∙ told.in-Refused.is in
     (sym (ap timestamp_number is), sym (ap (timestamp_after a.timestamp.now) is))
 
-returns-2 : tie.Need-returns-2
+returns-2 : tie.Need-returns-in-Timestamp
 returns-2 c =
-    let told = c.before in
-    let call = told.before.before in
-    let a = call.before.args in
-    let answer = rw (to_z-of_z call.before.ranges.seconds) at call.timestamp-of-unix-time.ensures in
-    let is = sym answer ∙ told.t.given.1 in
+    let told = c in
+    let call = told in
+    let a = call.args in
+    let answer = rw (to_z-of_z call.ranges.seconds) at call.timestamp_of_unix_time.ensures in
+    let is = sym answer ∙ told.in-Timestamp.is in
     (sym (ap timestamp_number is), sym (ap (timestamp_after a.timestamp.now) is))
 
 pub pongulvesz_timestamp_of_unix_time_spec : {M : Type 1} → statement M

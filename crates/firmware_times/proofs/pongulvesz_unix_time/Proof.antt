@@ -8,23 +8,23 @@ use Rattle.firmware_times.specs.Times.{unix_number, seconds_after, nanoseconds_a
 use Rattle.firmware_times.proofs.pongulvesz_unix_time.Statement.{statement}
 use Rattle.firmware_times.proofs.pongulvesz_unix_time.Tie as tie
 
-returns : tie.Need-returns
+returns : tie.Need-returns-in-Refused
 returns c =
-    let told = c.before in
-    let call = told.before.before in
-    let a = call.before.before.args in
-    let answer = rw call.before.from-units.ensures at call.unix-time-of-timestamp.ensures in
-    let is = sym answer ∙ told.number.given.1 in
+    let told = c in
+    let call = told in
+    let a = call.args in
+    let answer = rw call.from_units.ensures at call.unix_time_of_timestamp.ensures in
+    let is = sym answer ∙ told.in-Refused.is in
     (sym (ap unix_number is), (sym (ap (seconds_after a.seconds.now) is), sym (ap (nanoseconds_after a.nanoseconds.now) is)))
 
-returns-2 : tie.Need-returns-2
+returns-2 : tie.Need-returns-in-UnixTime
 returns-2 c =
-    let told = c.before.before in
-    let call = told.before.before in
-    let a = call.before.before.args in
-    let answer = rw call.before.from-units.ensures at call.unix-time-of-timestamp.ensures in
-    let is = sym answer ∙ told.u.given.1 in
-    let s : SFits w64 told.u.given.0.0.seconds = search rules in
+    let told = c.before in
+    let call = told in
+    let a = call.args in
+    let answer = rw call.from_units.ensures at call.unix_time_of_timestamp.ensures in
+    let is = sym answer ∙ told.in-UnixTime.is in
+    let s : SFits w64 told.in-UnixTime.u.seconds = search rules in
     (sym (ap unix_number is), (rw (to_z-of_z s) (sym (ap (seconds_after a.seconds.now) is)), sym (ap (nanoseconds_after a.nanoseconds.now) is)))
 
 pub pongulvesz_unix_time_spec : {M : Type 1} → statement M

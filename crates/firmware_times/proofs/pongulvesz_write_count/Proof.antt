@@ -5,16 +5,16 @@ use borrow.Author.Rules.{rules}
 use Rattle.firmware_times.proofs.pongulvesz_write_count.Statement.{statement}
 use Rattle.firmware_times.proofs.pongulvesz_write_count.Tie as tie
 
-returns : tie.Need-returns
+returns : tie.Need-returns-in-Refused
 returns c =
-    let told = c.before in
-    let write = told.before.before.before.before in
-    (sym (ap write_number (sym write.write.ensures.0 ∙ told.number.given.1)), write.write.ensures.1)
+    let told = c in
+    let write = told in
+    (sym (ap write_number (sym write.write.ensures.0 ∙ told.in-Refused.is)), write.write.ensures.1)
 
-returns-2 : tie.Need-returns-2
+returns-2 : tie.Need-returns-in-Written
 returns-2 c =
-    let write = c.before.before.before.before in
-    (sym (ap write_number (sym write.write.ensures.0 ∙ c.enum_told.given.1)), write.write.ensures.1)
+    let write = c in
+    (sym (ap write_number (sym write.write.ensures.0 ∙ c.in-Written.is)), write.write.ensures.1)
 
 pub pongulvesz_write_count_spec : {M : Type 1} → statement M
 pongulvesz_write_count_spec =

@@ -8,26 +8,26 @@ use Rattle.reply_block.proofs.reply_at.Statement.{statement}
 use Rattle.reply_block.proofs.reply_at.Tie as tie
 
 -- each index is within its length
-part-reply-number-end : tie.Need-slice-bounds-reply-number-end
-part-reply-number-end c = omega arith
+part-reply_number-end : tie.Need-slice_bounds-reply_number-end
+part-reply_number-end c = omega arith
 
-shared-slice-read-reply-number : tie.Need-shared-slice-read-reply-number
-shared-slice-read-reply-number c = omega arith
+shared_slice_read-reply_number : tie.Need-bounds-times-i
+shared_slice_read-reply_number c = omega arith
 
-shared-slice-read-reply-number-2 : tie.Need-shared-slice-read-reply-number-2
-shared-slice-read-reply-number-2 c = omega arith
+shared_slice_read-reply_number-2 : tie.Need-bounds-times-i-2
+shared_slice_read-reply_number-2 c = omega arith
 
-part-reply-number-end-2 : tie.Need-slice-bounds-reply-number-end-2
-part-reply-number-end-2 c = omega arith
+part-reply_number-end-2 : tie.Need-slice_bounds-reply_number-end-2
+part-reply_number-end-2 c = omega arith
 
-slice-write-numbers : tie.Need-slice-write-numbers
-slice-write-numbers c = omega arith
+slice_write-numbers : tie.Need-bounds-numbers-i
+slice_write-numbers c = omega arith
 
 returns : tie.Need-returns
 returns c =
     let call = c.before.before in
-    let a = call.before.before.before.before.before.before.before.before.before.args in
-    let e = call.reply-number.ensures in (
+    let a = call.args in
+    let e = call.reply_number.ensures in (
       put_reply a.settings a.i a.requests.now a.times.now a.replies.now e.1,
       ap (set a.numbers.now a.i) (put_number a.settings a.i a.requests.now a.times.now a.replies.now e.0),
     )
@@ -40,19 +40,19 @@ reply_at_spec =
     (λ c. omega arith)
     (λ c. omega arith)
     (λ c. omega arith)
-    part-reply-number-end
+    part-reply_number-end
     (λ c. omega arith)
     (λ c. omega arith)
-    shared-slice-read-reply-number
+    shared_slice_read-reply_number
     (λ c. omega arith)
     (λ c. omega arith)
     (λ c. omega arith)
-    shared-slice-read-reply-number-2
+    shared_slice_read-reply_number-2
     (λ c. omega arith)
     (λ c. omega arith)
-    part-reply-number-end-2
+    part-reply_number-end-2
     _
-    slice-write-numbers
+    slice_write-numbers
     (λ c. search rules)
     (λ c. search rules)
     returns)

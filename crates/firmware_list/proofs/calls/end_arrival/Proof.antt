@@ -12,11 +12,11 @@ use Rattle.firmware_list.specs.Images.{next_octets}
 use Rattle.firmware_list.proofs.calls.end_arrival.Statement.{statement}
 use Rattle.firmware_list.proofs.calls.end_arrival.Tie as tie
 
-returns : tie.Need-returns
+returns : tie.Need-returns-in-Refused
 returns c =
-    let told = c.before in
-    let a = told.before.before.before.before.before.before.args in
-    let is = told.told.given.1 in (
+    let told = c in
+    let a = told.args in
+    let is = told.in-Refused.is in (
       sym (ap (λ z. number_of (said_arrival z)) is),
       (
         sym (ap (λ z. next_octets a.list.now (said_arrival z) a.at a.arrived.client) is),
@@ -24,33 +24,33 @@ returns c =
       ),
     )
 
-returns-2 : tie.Need-returns-2
+returns-2 : tie.Need-returns-in-Accepted
 returns-2 c =
     let store = c.before.before in
     let answer = store.before.before.before.before in
-    let told = answer.before.before.before in
-    let a = told.before.before.before.before.before.before.args in
-    let is = told.told2.given.1 in
-    let o : SFits w64 told.told2.given.0.0 = search rules in
-    let d : SFits w64 told.told2.given.0.1.1.0 = search rules in (
+    let told = answer.before.before in
+    let a = told.args in
+    let is = told.in-Accepted.is in
+    let o : SFits w64 told.in-Accepted.offset = search rules in
+    let d : SFits w64 told.in-Accepted.delay = search rules in (
       sym (ap (λ z. number_of (said_arrival z)) is),
       (
         store.store.ensures ∙ sym (ap (λ z. next_octets a.list.now (said_arrival z) a.at a.arrived.client) is),
-        rw (to_z-of_z o, to_z-of_z d) at answer.write-accepted.ensures ∙ sym (ap (λ z. with_answer a.answer.now (said_arrival z)) is),
+        rw (to_z-of_z o, to_z-of_z d) at answer.write_accepted.ensures ∙ sym (ap (λ z. with_answer a.answer.now (said_arrival z)) is),
       ),
     )
 
-returns-3 : tie.Need-returns-3
+returns-3 : tie.Need-returns-in-Kiss
 returns-3 c =
     let store = c.before.before in
     let answer = store.before.before.before.before in
-    let told = answer.before.before.before in
-    let a = told.before.before.before.before.before.before.args in
-    let is = told.told3.given.1 in (
+    let told = answer.before.before in
+    let a = told.args in
+    let is = told.in-Kiss.is in (
       sym (ap (λ z. number_of (said_arrival z)) is),
       (
-        store.store2.ensures ∙ sym (ap (λ z. next_octets a.list.now (said_arrival z) a.at a.arrived.client) is),
-        answer.write-kiss.ensures ∙ sym (ap (λ z. with_answer a.answer.now (said_arrival z)) is),
+        store.store-in-Kiss.ensures ∙ sym (ap (λ z. next_octets a.list.now (said_arrival z) a.at a.arrived.client) is),
+        answer.write_kiss.ensures ∙ sym (ap (λ z. with_answer a.answer.now (said_arrival z)) is),
       ),
     )
 

@@ -7,12 +7,12 @@ use Rattle.firmware_list.specs.Images.{next_octets}
 use Rattle.firmware_list.proofs.calls.end_call.Statement.{statement}
 use Rattle.firmware_list.proofs.calls.end_call.Tie as tie
 
-returns-2 : tie.Need-returns-2
+returns-2 : tie.Need-returns-in-Done
 returns-2 c =
     let store = c.before.before in
     let told = store.before.before in
-    let a = told.before.before.before.before.before.args in
-    let done = told.enum_told.given.1 in (
+    let a = told.args in
+    let done = told.in-Done.is in (
       sym (ap (λ z. number_of (said_call z)) done),
       store.store.ensures ∙ sym (ap (λ z. next_octets a.list.now (said_call z) a.at a.called.client) done),
     )

@@ -20,19 +20,19 @@ use Rattle.firmware_list.proofs.Records.{call_on_list, buffer_on_list, nothing_a
 use Rattle.firmware_list.proofs.calls.pongulvesz_list_ask.Statement.{statement}
 use Rattle.firmware_list.proofs.calls.pongulvesz_list_ask.Tie as tie
 
-returns : tie.Need-returns
+returns : tie.Need-returns-then-not-legal
 unfolding number list_after buffer_after
 returns c =
     let ask = c.before.before.before in
     let counts = ask.before.before.before.before in
     let load = counts.before.before in
-    let a = load.before.before.before.before.before.args in
-    let illegal = not-true _ c.if1.true in
-    let none = sym load.load.ensures.1 ∙ illegal in
+    let a = load.args in
+    let illegal = not-true _ c.if-not-legal.true-raw in
+    let none = sym load.load-records.ensures.1 ∙ illegal in
     let n = counts.count_of.ensures ∙ ap (λ b. cond b (count a.list.now) 0) illegal in
-    (rw none, (rw none, rw none (ask.ask.ensures.1 ∙ nothing_asked _ a.at a.in_use a.buffer.now _ _ _ a.uptime n)))
+    (rw none, (rw none, rw none (ask.ask-called.ensures.1 ∙ nothing_asked _ a.at a.in_use a.buffer.now _ _ _ a.uptime n)))
 
-returns-2 : tie.Need-returns-2
+returns-2 : tie.Need-returns
 unfolding number list_after buffer_after asked_for list_after_ask buffer_after_ask
 returns-2 c =
     let end = c.before.before in
@@ -43,21 +43,21 @@ returns-2 c =
     let counts = version.before.before in
     let load = counts.before.before in
     let known = load.before.before.before.before in
-    let a = known.before.args in
+    let a = known.args in
     let list = a.list.now in
     let buffer = a.buffer.now in
-    let octets : AreOctets list = λ i. omega (arith, known.slice-known.given i) in
-    let legal = not-false _ test.if1.false in
-    let is = sym load.load.ensures.1 ∙ legal in
+    let octets : AreOctets list = λ i. omega (arith, known.slice_known-1.given i) in
+    let legal = not-false _ test.if-not-legal.false-raw in
+    let is = sym load.load-records.ensures.1 ∙ legal in
     let n = counts.count_of.ensures ∙ ap (λ b. cond b (count list) 0) legal in
-    let records = load.load.result in
-    let eight = load.load.ensures.0.0 in
-    let holds = load.load.ensures.0.1 is in
-    let asked = rw (clock.from-units.ensures, version.narrow.ensures, n) at ask.ask.ensures in
+    let records = load.load-records.result in
+    let eight = load.load-records.ensures.0.0 in
+    let holds = load.load-records.ensures.0.1 is in
+    let asked = rw (clock.from_units.ensures, version.narrow.ensures, n) at ask.ask-called.ensures in
     let (said, left) = call_on_list list is octets records eight holds a.at a.in_use (λ client. after_ask client (length buffer) (min a.version 255) (timestamp a.clock) (tokens.token a.token) a.uptime) _ _ asked.0.0 asked.0.1 in
     let buffer_is = buffer_on_list list is octets records eight holds a.at a.in_use buffer (λ client. after_ask_buffer client buffer (min a.version 255) (timestamp a.clock) (tokens.token a.token) a.uptime) in (
-      rw is (end.end-call.ensures.0 ∙ ap (λ (z : ListCalled). number_of (said_call z.answer)) said),
-      (rw is (end.end-call.ensures.1 ∙ left), rw is (asked.1 ∙ buffer_is)),
+      rw is (end.end_call.ensures.0 ∙ ap (λ (z : ListCalled). number_of (said_call z.answer)) said),
+      (rw is (end.end_call.ensures.1 ∙ left), rw is (asked.1 ∙ buffer_is)),
     )
 
 pub pongulvesz_list_ask_spec : {M : Type 1} → statement M

@@ -16,13 +16,13 @@ use Rattle.firmware_list.proofs.Records.{call_on_list}
 use Rattle.firmware_list.proofs.calls.pongulvesz_list_give_up.Statement.{statement}
 use Rattle.firmware_list.proofs.calls.pongulvesz_list_give_up.Tie as tie
 
-returns : tie.Need-returns
+returns : tie.Need-returns-then-not-legal
 unfolding number list_after
 returns c =
-    let none = sym c.before.before.before.before.load.ensures.1 ∙ not-true _ c.if1.true in
+    let none = sym c.load-records.ensures.1 ∙ not-true _ c.if-not-legal.true-raw in
     (rw none, rw none)
 
-returns-2 : tie.Need-returns-2
+returns-2 : tie.Need-returns
 unfolding number list_after gave_up_for list_after_give_up
 returns-2 c =
     let end = c.before.before in
@@ -31,15 +31,15 @@ returns-2 c =
     let counts = give_up.before in
     let load = counts.before.before in
     let known = load.before.before.before in
-    let a = known.before.args in
+    let a = known.args in
     let list = a.list.now in
-    let octets : AreOctets list = λ i. omega (arith, known.slice-known.given i) in
-    let legal = not-false _ test.if1.false in
-    let is = sym load.load.ensures.1 ∙ legal in
+    let octets : AreOctets list = λ i. omega (arith, known.slice_known-1.given i) in
+    let legal = not-false _ test.if-not-legal.false-raw in
+    let is = sym load.load-records.ensures.1 ∙ legal in
     let n = counts.count_of.ensures ∙ ap (λ b. cond b (count list) 0) legal in
-    let (result, client) = rw n at give_up.give-up.ensures in
-    let (said, left) = call_on_list list is octets load.load.result load.load.ensures.0.0 (load.load.ensures.0.1 is) a.at a.in_use (λ client. gave_up client a.uptime) _ _ result client in
-    (rw is (end.end-call.ensures.0 ∙ ap (λ (z : ListCalled). number_of (said_call z.answer)) said), rw is (end.end-call.ensures.1 ∙ left))
+    let (result, client) = rw n at give_up.give_up-called.ensures in
+    let (said, left) = call_on_list list is octets load.load-records.result load.load-records.ensures.0.0 (load.load-records.ensures.0.1 is) a.at a.in_use (λ client. gave_up client a.uptime) _ _ result client in
+    (rw is (end.end_call.ensures.0 ∙ ap (λ (z : ListCalled). number_of (said_call z.answer)) said), rw is (end.end_call.ensures.1 ∙ left))
 
 pub pongulvesz_list_give_up_spec : {M : Type 1} → statement M
 pongulvesz_list_give_up_spec =

@@ -8,17 +8,17 @@ use Rattle.firmware_list.proofs.Lists.{put_image}
 use Rattle.firmware_list.proofs.images.store.Statement.{statement}
 use Rattle.firmware_list.proofs.images.store.Tie as tie
 
-returns : tie.Need-returns
+returns : tie.Need-returns-then-at-list
 unfolding with_record
 returns c =
     let write = c.before.before in
-    let a = write.before.before.before.before.args in
-    put_image a.list.now a.at a.client _ (omega arith) write.write-image.ensures
+    let a = write.args in
+    put_image a.list.now a.at a.client _ (omega arith) write.write_image.ensures
 
-returns-2 : tie.Need-returns-2
+returns-2 : tie.Need-returns-else-at-list
 unfolding with_record
 returns-2 c =
-    let a = c.before.before.args in
+    let a = c.args in
     rw (le-ltb a.at (count a.list.now) (omega arith))
 
 pub store_spec : {M : Type 1} → statement M

@@ -8,8 +8,8 @@ returns : tie.Need-returns
 returns c =
     let call = c.before.before.before.before in
     let set = call.before.before.before in
-    let settings = rw (to_z-of_z set.before.before.before.before.before.ranges.precision) at set.settings-of.ensures in
-    let r = call.reply-block.ensures in
+    let settings = rw (to_z-of_z set.ranges.precision) at set.settings_of-set.ensures in
+    let r = call.reply_block.ensures in
     (r.0, (rw settings at r.1.0, rw settings at r.1.1))
 
 pub pongulvesz_reply_block_spec : {M : Type 1} → statement M
