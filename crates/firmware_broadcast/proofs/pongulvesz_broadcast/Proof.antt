@@ -19,7 +19,7 @@ set s = let a = s.args in settings a.synchronised a.leap a.precision a.identifie
 -- what the inner call answers, and the buffer after it
 called : (c : tie.After-write) → let s = start c in let a = s.args in
     (c.write.result ≡ write_answer (set s) a.version a.poll a.t3 (length a.buffer.now))
-    × (c.write.new.1.1.1.1.0 ≡ buffer_after (set s) a.version a.poll a.t3 a.buffer.now)
+    × (c.write.new.buffer ≡ buffer_after (set s) a.version a.poll a.t3 a.buffer.now)
 called c =
     let t3 = c.before.before in
     let poll = t3.before in

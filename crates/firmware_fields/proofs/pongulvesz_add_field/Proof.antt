@@ -20,7 +20,7 @@ fits c = le-ltb _ _ c.if-field_type-gt65535.false
 called : (c : tie.After-add) → let a = (start c).args in c.add.result ≡ add_answer a.buffer.now a.size.now a.field_type a.body.now
 called c = rw (fits c) c.add.ensures.0
 
-written : (c : tie.After-add) → let a = (start c).args in c.add.new-1.0 ≡ buffer_after a.buffer.now a.size.now a.field_type a.body.now
+written : (c : tie.After-add) → let a = (start c).args in c.add.new.buffer ≡ buffer_after a.buffer.now a.size.now a.field_type a.body.now
 written c = rw (fits c) c.add.ensures.1
 
 returns : tie.Need-returns-then-field_type-gt65535

@@ -8,35 +8,32 @@ use borrow.Author.Rules.{rules}
 use Rattle.firmware_packets.proofs.fields_in.Statement.{statement}
 use Rattle.firmware_packets.proofs.fields_in.Tie as tie
 
-small : (s : tie.Start) → Narrow s.args.n
-small s = narrow s.args.n s.requires
-
 cast-t6 : tie.Need-overflow_cast-result
-cast-t6 c = record { fits = omega (arith, (small c).0.0) }
+cast-t6 c = record { fits = omega (arith, (narrow c.args.n c.requires).0.0) }
 
 cast-t10 : tie.Need-overflow_cast-result-2
-cast-t10 c = record { fits = omega (arith, (small c).0.1) }
+cast-t10 c = record { fits = omega (arith, (narrow c.args.n c.requires).0.1) }
 
 cast-t14 : tie.Need-overflow_cast-result-3
-cast-t14 c = record { fits = omega (arith, (small c).0.2) }
+cast-t14 c = record { fits = omega (arith, (narrow c.args.n c.requires).0.2) }
 
 cast-t18 : tie.Need-overflow_cast-result-4
-cast-t18 c = record { fits = omega (arith, (small c).1.0) }
+cast-t18 c = record { fits = omega (arith, (narrow c.args.n c.requires).1.0) }
 
 cast-t22 : tie.Need-overflow_cast-result-5
-cast-t22 c = record { fits = omega (arith, (small c).1.1) }
+cast-t22 c = record { fits = omega (arith, (narrow c.args.n c.requires).1.1) }
 
 cast-signed8 : tie.Need-overflow_cast-n
-cast-signed8 c = record { fits = omega (arith, (small c).1.2) }
+cast-signed8 c = record { fits = omega (arith, (narrow c.args.n c.requires).1.2) }
 
 cast-signed32 : tie.Need-overflow_cast-n-2
-cast-signed32 c = record { fits = omega (arith, (small c.before).2.0) }
+cast-signed32 c = record { fits = omega (arith, (narrow c.args.n c.requires).2.0) }
 
 cast-t36 : tie.Need-overflow_cast-result-6
-cast-t36 c = record { fits = omega (arith, (small c.before.before).2.1) }
+cast-t36 c = record { fits = omega (arith, (narrow c.args.n c.requires).2.1) }
 
 cast-t40 : tie.Need-overflow_cast-result-7
-cast-t40 c = record { fits = omega (arith, (small c.before.before).2.2) }
+cast-t40 c = record { fits = omega (arith, (narrow c.args.n c.requires).2.2) }
 
 returns : tie.Need-returns
 unfolding fields_in

@@ -19,7 +19,7 @@ returns-2 c =
     let read = told in
     let a = read.args in
     let is = sym read.read.ensures ∙ told.in-Fields.is in
-    (sym (ap read_number is), c.Numbers-of.ensures ∙ sym (ap (fields_after a.fields.now) is))
+    (sym (ap read_number is), c.numbers_of.ensures ∙ sym (ap (fields_after a.fields.now) is))
 
 pub pongulvesz_read_fields_spec : {M : Type 1} → statement M
 pongulvesz_read_fields_spec =

@@ -14,9 +14,8 @@ use Rattle.firmware_list.proofs.calls.end_arrival.Tie as tie
 
 returns : tie.Need-returns-in-Refused
 returns c =
-    let told = c in
-    let a = told.args in
-    let is = told.in-Refused.is in (
+    let a = c.args in
+    let is = c.in-Refused.is in (
       sym (ap (λ z. number_of (said_arrival z)) is),
       (
         sym (ap (λ z. next_octets a.list.now (said_arrival z) a.at a.arrived.client) is),
@@ -26,31 +25,25 @@ returns c =
 
 returns-2 : tie.Need-returns-in-Accepted
 returns-2 c =
-    let store = c.before.before in
-    let answer = store.before.before.before.before in
-    let told = answer.before.before in
-    let a = told.args in
-    let is = told.in-Accepted.is in
-    let o : SFits w64 told.in-Accepted.offset = search rules in
-    let d : SFits w64 told.in-Accepted.delay = search rules in (
+    let a = c.args in
+    let is = c.in-Accepted.is in
+    let o : SFits w64 c.in-Accepted.offset = search rules in
+    let d : SFits w64 c.in-Accepted.delay = search rules in (
       sym (ap (λ z. number_of (said_arrival z)) is),
       (
-        store.store.ensures ∙ sym (ap (λ z. next_octets a.list.now (said_arrival z) a.at a.arrived.client) is),
-        rw (to_z-of_z o, to_z-of_z d) at answer.write_accepted.ensures ∙ sym (ap (λ z. with_answer a.answer.now (said_arrival z)) is),
+        c.store.ensures ∙ sym (ap (λ z. next_octets a.list.now (said_arrival z) a.at a.arrived.client) is),
+        rw (to_z-of_z o, to_z-of_z d) at c.write_accepted.ensures ∙ sym (ap (λ z. with_answer a.answer.now (said_arrival z)) is),
       ),
     )
 
 returns-3 : tie.Need-returns-in-Kiss
 returns-3 c =
-    let store = c.before.before in
-    let answer = store.before.before.before.before in
-    let told = answer.before.before in
-    let a = told.args in
-    let is = told.in-Kiss.is in (
+    let a = c.args in
+    let is = c.in-Kiss.is in (
       sym (ap (λ z. number_of (said_arrival z)) is),
       (
-        store.store-in-Kiss.ensures ∙ sym (ap (λ z. next_octets a.list.now (said_arrival z) a.at a.arrived.client) is),
-        answer.write_kiss.ensures ∙ sym (ap (λ z. with_answer a.answer.now (said_arrival z)) is),
+        c.store-in-Kiss.ensures ∙ sym (ap (λ z. next_octets a.list.now (said_arrival z) a.at a.arrived.client) is),
+        c.write_kiss.ensures ∙ sym (ap (λ z. with_answer a.answer.now (said_arrival z)) is),
       ),
     )
 

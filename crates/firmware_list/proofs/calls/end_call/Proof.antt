@@ -9,12 +9,10 @@ use Rattle.firmware_list.proofs.calls.end_call.Tie as tie
 
 returns-2 : tie.Need-returns-in-Done
 returns-2 c =
-    let store = c.before.before in
-    let told = store.before.before in
-    let a = told.args in
-    let done = told.in-Done.is in (
+    let a = c.args in
+    let done = c.in-Done.is in (
       sym (ap (λ z. number_of (said_call z)) done),
-      store.store.ensures ∙ sym (ap (λ z. next_octets a.list.now (said_call z) a.at a.called.client) done),
+      c.store.ensures ∙ sym (ap (λ z. next_octets a.list.now (said_call z) a.at a.called.client) done),
     )
 
 pub end_call_spec : {M : Type 1} → statement M

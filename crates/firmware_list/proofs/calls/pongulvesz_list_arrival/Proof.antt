@@ -27,36 +27,27 @@ returns c =
 returns-2 : tie.Need-returns-then-not-legal
 unfolding number list_after in_use_after answer_after
 returns-2 c =
-    let load = c in
-    let none = sym load.load-records.ensures.1 ∙ not-true _ c.if-not-legal.true-raw in
+    let none = sym c.load-records.ensures.1 ∙ not-true _ c.if-not-legal.true-raw in
     (rw none, (rw none, (rw none, rw none)))
 
 returns-3 : tie.Need-returns
 unfolding number list_after in_use_after answer_after
 returns-3 c =
-    let end = c.before.before.before.before in
-    let test = end.before.before.before.before in
-    let arrival = test.before in
-    let t4 = arrival.before in
-    let counts = t4.before.before in
-    let load = counts.before.before in
-    let fits = load.before.before.before in
-    let known = fits.before.before.before in
-    let a = known.args in
+    let a = c.args in
     let list = a.list.now in
-    let octets : AreOctets list = λ i. omega (arith, known.slice_known-1.given i) in
-    let legal = not-false _ test.if-not-legal.false-raw in
-    let is = sym load.load-records.ensures.1 ∙ legal in
-    let n = eq-eqb _ _ fits.if-answer-ne-ANSWER.false in
-    let m = counts.count_of.ensures ∙ ap (λ b. cond b (count list) 0) legal in
-    let (result, client) = rw (t4.from_units.ensures, m) at arrival.arrival-arrived.ensures in
-    let (said, left) = arrival_on_list list is octets load.load-records.result-1 load.load-records.ensures.0.0 (load.load-records.ensures.0.1 is) a.at a.in_use.now a.packet.now (timestamp a.t4) _ _ result client in (
-      rw (is, n) (end.end_arrival.ensures.0 ∙ ap (λ (z : ListArrived). number_of (said_arrival z.answer)) said),
+    let octets : AreOctets list = λ i. omega (arith, c.slice_known-1.given i) in
+    let legal = not-false _ c.if-not-legal.false-raw in
+    let is = sym c.load-records.ensures.1 ∙ legal in
+    let n = eq-eqb _ _ c.if-answer-ne-ANSWER.false in
+    let m = c.count_of.ensures ∙ ap (λ b. cond b (count list) 0) legal in
+    let (result, client) = rw (c.from_units.ensures, m) at c.arrival-arrived.ensures in
+    let (said, left) = arrival_on_list list is octets c.load-records.result c.load-records.ensures.0.0 (c.load-records.ensures.0.1 is) a.at a.in_use.now a.packet.now (timestamp a.t4) _ _ result client in (
+      rw (is, n) (c.end_arrival.ensures.0 ∙ ap (λ (z : ListArrived). number_of (said_arrival z.answer)) said),
       (
-        rw (is, n) (end.end_arrival.ensures.1.0 ∙ left),
+        rw (is, n) (c.end_arrival.ensures.1.0 ∙ left),
         (
           rw (is, n) (ap (λ (z : ListArrived). z.in_use) said),
-          rw (is, n) (rw n at (end.end_arrival.ensures.1.1 ∙ ap (λ (z : ListArrived). with_answer a.answer.now (said_arrival z.answer)) said)),
+          rw (is, n) (rw n at (c.end_arrival.ensures.1.1 ∙ ap (λ (z : ListArrived). with_answer a.answer.now (said_arrival z.answer)) said)),
         ),
       ),
     )

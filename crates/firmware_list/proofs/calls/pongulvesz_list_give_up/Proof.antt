@@ -25,21 +25,15 @@ returns c =
 returns-2 : tie.Need-returns
 unfolding number list_after gave_up_for list_after_give_up
 returns-2 c =
-    let end = c.before.before in
-    let test = end.before.before in
-    let give_up = test.before in
-    let counts = give_up.before in
-    let load = counts.before.before in
-    let known = load.before.before.before in
-    let a = known.args in
+    let a = c.args in
     let list = a.list.now in
-    let octets : AreOctets list = λ i. omega (arith, known.slice_known-1.given i) in
-    let legal = not-false _ test.if-not-legal.false-raw in
-    let is = sym load.load-records.ensures.1 ∙ legal in
-    let n = counts.count_of.ensures ∙ ap (λ b. cond b (count list) 0) legal in
-    let (result, client) = rw n at give_up.give_up-called.ensures in
-    let (said, left) = call_on_list list is octets load.load-records.result load.load-records.ensures.0.0 (load.load-records.ensures.0.1 is) a.at a.in_use (λ client. gave_up client a.uptime) _ _ result client in
-    (rw is (end.end_call.ensures.0 ∙ ap (λ (z : ListCalled). number_of (said_call z.answer)) said), rw is (end.end_call.ensures.1 ∙ left))
+    let octets : AreOctets list = λ i. omega (arith, c.slice_known-1.given i) in
+    let legal = not-false _ c.if-not-legal.false-raw in
+    let is = sym c.load-records.ensures.1 ∙ legal in
+    let n = c.count_of.ensures ∙ ap (λ b. cond b (count list) 0) legal in
+    let (result, client) = rw n at c.give_up-called.ensures in
+    let (said, left) = call_on_list list is octets c.load-records.result c.load-records.ensures.0.0 (c.load-records.ensures.0.1 is) a.at a.in_use (λ client. gave_up client a.uptime) _ _ result client in
+    (rw is (c.end_call.ensures.0 ∙ ap (λ (z : ListCalled). number_of (said_call z.answer)) said), rw is (c.end_call.ensures.1 ∙ left))
 
 pub pongulvesz_list_give_up_spec : {M : Type 1} → statement M
 pongulvesz_list_give_up_spec =

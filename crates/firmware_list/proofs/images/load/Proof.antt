@@ -29,33 +29,27 @@ loop-holds c = (omega arith, all_left _ _, λ k h. absurd (omega arith), refl)
 
 returns-2 : tie.Need-returns-in-NotLegal invariant_loop decreases_loop
 returns-2 c =
-    let read = c.before in
-    let l = read.before.before.before in
-    let list = l.args.list.now in
-    let there = rw (span l.loop-i.i) at (no_image _ (sym read.read_image.ensures ∙ c.in-NotLegal.is)) in
-    let none = whole_is list false l.if-list-ne0.false (l.loop-i.invariant.1 ∙ illegal_there list (count list) l.loop-i.i (omega arith) there) in
-    ((l.loop-i.invariant.3, not_both none), sym none)
+    let list = c.args.list.now in
+    let there = rw (span c.loop-i.i) at (no_image _ (sym c.read_image.ensures ∙ c.in-NotLegal.is)) in
+    let none = whole_is list false c.if-list-ne0.false (c.loop-i.invariant.1 ∙ illegal_there list (count list) c.loop-i.i (omega arith) there) in
+    ((c.loop-i.invariant.3, not_both none), sym none)
 
 loop-again : tie.Need-loop-i-preserved invariant_loop decreases_loop
 loop-again c =
-    let told = c.before in
-    let read = told in
-    let l = read.before in
-    let list = l.args.list.now in
-    let (is, record_is) = rw (span l.loop-i.i) at (an_image _ _ (sym read.read_image.ensures ∙ told.in-Client.is)) in
-    let holds : HoldsFirst c.if-i-lt8.records (suc l.loop-i.i) list =
-    ⊎_elim (λ w. rw (w.1 ∙ ap (set l.loop-i.records l.loop-i.i) (sym record_is)) (placed l.loop-i.records list l.loop-i.i l.loop-i.invariant.2 (omega (arith, w.0.taken, l.loop-i.invariant.3))))
-    (λ w. rw w.1 (passed l.loop-i.records list l.loop-i.i l.loop-i.invariant.2 (omega (arith, w.0.left)))) c.if-i-lt8.branch-raw in
+    let list = c.args.list.now in
+    let (is, record_is) = rw (span c.loop-i.i) at (an_image _ _ (sym c.read_image.ensures ∙ c.in-Client.is)) in
+    let holds : HoldsFirst c.if-i-lt8.records (suc c.loop-i.i) list =
+    ⊎_elim (λ w. rw (w.records-is ∙ ap (set c.loop-i.records c.loop-i.i) (sym record_is)) (placed c.loop-i.records list c.loop-i.i c.loop-i.invariant.2 (omega (arith, w.if-i-lt8.true, c.loop-i.invariant.3))))
+    (λ w. rw w.records-is (passed c.loop-i.records list c.loop-i.i c.loop-i.invariant.2 (omega (arith, w.if-i-lt8.false)))) c.if-i-lt8.branch-raw in
     let long : length c.if-i-lt8.records ≡ 8 =
-    ⊎_elim (λ w. rw w.1 (length-set l.loop-i.records l.loop-i.i _ ∙ l.loop-i.invariant.3)) (λ w. rw w.1 l.loop-i.invariant.3) c.if-i-lt8.branch-raw in
-    (omega arith, rw add-one (l.loop-i.invariant.1 ∙ legal_there list (count list) l.loop-i.i (omega arith) is), rw add-one holds, long)
+    ⊎_elim (λ w. rw w.records-is (length-set c.loop-i.records c.loop-i.i _ ∙ c.loop-i.invariant.3)) (λ w. rw w.records-is c.loop-i.invariant.3) c.if-i-lt8.branch-raw in
+    (omega arith, rw add-one (c.loop-i.invariant.1 ∙ legal_there list (count list) c.loop-i.i (omega arith) is), rw add-one holds, long)
 
 returns-3 : tie.Need-returns invariant_loop decreases_loop
 returns-3 c =
-    let l = c.before in
-    let list = l.args.list.now in
-    let all = whole_is list true l.if-list-ne0.false (l.loop-i.invariant.1 ∙ none_left list (count list) l.loop-i.i (omega arith)) in
-    ((l.loop-i.invariant.3, λ is k h few. l.loop-i.invariant.2 k (omega arith) few), sym all)
+    let list = c.args.list.now in
+    let all = whole_is list true c.if-list-ne0.false (c.loop-i.invariant.1 ∙ none_left list (count list) c.loop-i.i (omega arith)) in
+    ((c.loop-i.invariant.3, λ is k h few. c.loop-i.invariant.2 k (omega arith) few), sym all)
 
 pub load_spec : {M : Type 1} → statement M
 load_spec =
