@@ -53,12 +53,12 @@ set_legal (c ∷ rest) zero next (first, others) l = (l, others)
 set_legal (c ∷ rest) (suc k) next (first, others) l = (first, set_legal rest k next others l)
 
 -- the number in use stays in the list
-in_use : (list : List Client) (r : calls.Result) (a : Alternate) (at in_use : ℕ) → at < length list → in_use < length list → alternate list at ≡ a → use_after r a at in_use < length list
-in_use list (calls.refused n) a at in_use inside used e = used
-in_use list calls.done a at in_use inside used e = used
-in_use list (calls.accepted offset half delay) a at in_use inside used e = used
-in_use list (calls.kiss code row) Alternate.None at in_use inside used e = used
-in_use list (calls.kiss code row) (Alternate.Record i) at in_use inside used e = go (eqb at in_use) refl
+stays_in_list : (list : List Client) (r : calls.Result) (a : Alternate) (at in_use : ℕ) → at < length list → in_use < length list → alternate list at ≡ a → use_after r a at in_use < length list
+stays_in_list list (calls.refused n) a at in_use inside used e = used
+stays_in_list list calls.done a at in_use inside used e = used
+stays_in_list list (calls.accepted offset half delay) a at in_use inside used e = used
+stays_in_list list (calls.kiss code row) Alternate.None at in_use inside used e = used
+stays_in_list list (calls.kiss code row) (Alternate.Record i) at in_use inside used e = go (eqb at in_use) refl
   where
     go : (b : Bool) → eqb at in_use ≡ b → use_after (calls.kiss code row) (Alternate.Record i) at in_use < length list
     go true s = rw s (alternates.in_list list at i e inside).0
@@ -77,7 +77,7 @@ module _ (at : ℕ) (w : Client) (waits : w.phase ≡ Waiting) where
   other_kept : (s : Associations) (x : Numbered) → x.at ≢ at → Sound s → Sound (left ours (does ours s x))
   other_kept s x other sound = stepped s x Sound sound (λ o inside legal p.
       let n = length-set s.list x.at o.next in
-      let used = in_use s.list o.result (alternate s.list x.at) x.at s.in_use inside.2 inside.3 refl in
+      let used = stays_in_list s.list o.result (alternate s.list x.at) x.at s.in_use inside.2 inside.3 refl in
       record {
         inside = (omega (arith, n, sound.inside.0), omega (arith, n, sound.inside.1), omega (arith, n, sound.inside.2), omega (arith, n, used));
         legal = set_legal s.list x.at o.next legal (next_legal (at_record (given ours s x)).0 (at_record (given ours s x)).1 o (legal_at s.list x.at legal inside.2) p);

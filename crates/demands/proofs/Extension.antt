@@ -22,7 +22,7 @@ use Rattle.demands.specs.Body.{body}
 use Rattle.demands.specs.Add as adding
 use Rattle.demands.specs.Add.{Add, add}
 use Rattle.demands.proofs.Facts.{begins_field_lem, only_fields, packet}
-use Rattle.demands.proofs.Form.{Meets, ◌and◌, ◌or-else◌and◌, end, by, acceptance_shown, table_answers}
+use Rattle.demands.proofs.Form.{Meets, ◌and◌, ◌or_else◌and◌, end, by, acceptance_shown, table_answers}
 
 pub begin_meets : Meets begin beginning.ours
 unfolding begun

@@ -180,10 +180,10 @@ module _ {F : Form} {f : Implementation F} (m : Meets F f) where
 -- ---- a call that goes by a table of tests
 
 -- the table says row by row what the rules say; `say` is the outcome that an answer of the table makes
-infixr 3 ◌and◌ ◌or-else◌and◌
+infixr 3 ◌and◌ ◌or_else◌and◌
 pub data Reflects {A O : Type 0} (say : A → O) : Tests A → Rules O → Type 1 where
   ◌and◌ : {n : ℕ} {b : Bool} {P : Type 0} {t : Tests A} {r : Rules O} → WhereFalse P b → Reflects say t r → Reflects say (n if b else t) (n unless P then r)
-  ◌or-else◌and◌ : {a : A} {o : O} {b : Bool} {P : Type 0} {t : Tests A} {r : Rules O} → WhereTrue P b → say a ≡ o → Reflects say t r
+  ◌or_else◌and◌ : {a : A} {o : O} {b : Bool} {P : Type 0} {t : Tests A} {r : Rules O} → WhereTrue P b → say a ≡ o → Reflects say t r
       → Reflects say (a when b else t) (o provided P else r)
   end : {a : A} {o : O} → say a ≡ o → Reflects say (otherwise a) (does o)
 
@@ -195,8 +195,8 @@ map_given say (answered a) = answered (say a)
 reflected : {A O : Type 0} {say : A → O} {t : Tests A} {r : Rules O} → Reflects say t r → Gives r (map_given say (tests.given t))
 reflected (◌and◌ {b = true} p rest) = inl (p.to, refl)
 reflected (◌and◌ {b = false} p rest) = inr (p.from tt, reflected rest)
-reflected (◌or-else◌and◌ {b = true} p e rest) = inl (p.from tt, ap answered e)
-reflected (◌or-else◌and◌ {b = false} p e rest) = inr (p.to, reflected rest)
+reflected (◌or_else◌and◌ {b = true} p e rest) = inl (p.from tt, ap answered e)
+reflected (◌or_else◌and◌ {b = false} p e rest) = inr (p.to, reflected rest)
 reflected (end e) = ap answered e
 
 -- `make` is what the call makes of what its table gives
