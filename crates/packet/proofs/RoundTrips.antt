@@ -18,8 +18,7 @@ use Rattle.arithmetic.proofs.TwosComplement.{signed_bits, bits_signed}
 use Rattle.arithmetic.proofs.Octets.{big_endian_octets, octets_number, number_lt, part_add, part_four}
 use Rattle.extension.proofs.Reading.{taken_false, of_48}
 use Rattle.packet.specs.declared.Fields.{Fields}
-use Rattle.packet.specs.declared.FieldsAnswer.{FieldsAnswer}
-use Rattle.packet.specs.Packet.{octet, ◌from◌to◌, fields_of, octets_of, read_answer, is_field_too_large, written}
+use Rattle.packet.specs.Packet.{octet, ◌from◌to◌, fields_of, octets_of, is_field_too_large, written}
 use Rattle.packet.specs.RoundTrips.{Legal, RoundTrips}
 use Rattle.packet.proofs.Packet.{length_octets_of, bounded, answer_written, octets_written, read_fields}
 

@@ -1,9 +1,9 @@
 -- No order: which difference it is, the laws, and what an answer of the enum says of the difference.
-use Rattle.std.proofs.Common.{◌≡◌, ℕ, ◌+◌, ◌-◌, ◌*◌, ◌^◌, ◌<◌, ◌≤◌, Bool, true, false, cond, eqb, ◌≢◌, ◌↔◌, ℤ, pos, ◌-ℤ◌, neg_ℤ, nat_abs, sym, refl, ◌∙◌, arith, to_z-of_z, w64, SFits, eq-eqb, ne_eqb, eqb-true}
+use Rattle.std.proofs.Common.{◌≡◌, ℕ, ◌+◌, ◌-◌, ◌*◌, ◌^◌, ◌<◌, ◌≤◌, Bool, true, false, cond, ◌≢◌, ℤ, pos, ◌-ℤ◌, neg_ℤ, nat_abs, sym, refl, ◌∙◌, arith, to_z-of_z, w64, SFits, eq-eqb, ne_eqb, eqb-true}
 use native.Mathlib.Decide.{dec_lt}
 use borrow.Author.Tests.{eqb-false}
 use Rattle.arithmetic.specs.TwosComplement.{signed}
-use Rattle.arithmetic.proofs.Integers.{up, dn, integers, minus, neg, size_is, eq_integers}
+use Rattle.arithmetic.proofs.Integers.{up, dn, integers, minus, neg, size_is}
 use Rattle.arithmetic.proofs.Modulo.{Congruent, near}
 use Rattle.arithmetic.proofs.Machine.{held, flags}
 use Rattle.arithmetic.proofs.TwosComplement.{signed_low, signed_high, difference_congruent, difference_fits}
@@ -11,7 +11,7 @@ use Rattle.timestamp.specs.declared.Timestamp.{Timestamp}
 use Rattle.timestamp.specs.declared.Difference.{Difference}
 use Rattle.timestamp.specs.declared.Difference.TheVariants.{NoOrder, Units}
 use Rattle.timestamp.specs.Timestamp.{◌since◌, has_no_order, ordered}
-use Rattle.timestamp.specs.Order.{Order, Orders}
+use Rattle.timestamp.specs.Order.{Orders}
 
 -- ---- the enum, taken apart
 

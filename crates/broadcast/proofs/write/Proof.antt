@@ -1,7 +1,7 @@
 -- `broadcast::write` meets its contract: the number of the first test that holds, else the packet is written. Assumes nothing.
 use Prim.Native.Nat.{◌≤◌}
 use native.Mathlib.Omega.{arith}
-use mathlib.Core.Path.{sym, ◌∙◌}
+use mathlib.Core.Path.{sym}
 use borrow.Author.Rules.{rules}
 use lib.Dec.{leb}
 use lib.ListN.{length}

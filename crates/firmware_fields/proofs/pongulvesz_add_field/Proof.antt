@@ -4,7 +4,6 @@ use mathlib.Core.Bool.{false}
 use lib.Dec.{ltb}
 use borrow.Author.Rules.{rules}
 use borrow.Author.Tests.{lt-ltb, le-ltb}
-use Rattle.extension_writer.specs.declared.AddAnswer.{AddAnswer}
 use Rattle.firmware_fields.specs.Fields.{add_number, add_answer, size_after, buffer_after}
 use Rattle.firmware_fields.proofs.pongulvesz_add_field.Statement.{statement}
 use Rattle.firmware_fields.proofs.pongulvesz_add_field.Tie as tie

@@ -1,11 +1,11 @@
 -- `firmware_layouts::read_image` meets its contract: by its tests in order. Assumes nothing.
 use mathlib.Core.Path.{◌≡◌, sym, ap, ◌∙◌}
-use mathlib.Core.Bool.{true, false}
+use mathlib.Core.Bool.{true}
 use lib.ListN.{length}
 use borrow.Author.Rules.{rules}
 use borrow.Author.Tests.{eq-eqb, ne_eqb}
 use Rattle.client.specs.Record.{illegal}
-use Rattle.firmware_layouts.specs.Image.{record_in, has_legal_values, is_image, image_read}
+use Rattle.firmware_layouts.specs.Image.{has_legal_values, is_image, image_read}
 use Rattle.firmware_layouts.proofs.Layouts.{not-true, not-false, exponent_few}
 use Rattle.firmware_layouts.proofs.read_image.Statement.{statement}
 use Rattle.firmware_layouts.proofs.read_image.Tie as tie

@@ -3,7 +3,7 @@ use native.Mathlib.Omega.{arith}
 use mir.Syntax.{w8, w32}
 use Rattle.arithmetic.proofs.Machine.{held_result}
 use Rattle.firmware_packets.specs.Packets.{fields_in}
-use Rattle.firmware_packets.proofs.Widths.{Narrow, narrow}
+use Rattle.firmware_packets.proofs.Widths.{narrow}
 use borrow.Author.Rules.{rules}
 use Rattle.firmware_packets.proofs.fields_in.Statement.{statement}
 use Rattle.firmware_packets.proofs.fields_in.Tie as tie

@@ -1,12 +1,11 @@
 -- `hex_encode::put_line` meets its contract. Assumes nothing.
 use Prim.Native.Nat.{◌+◌}
 use native.Mathlib.Omega.{arith}
-use mathlib.Core.Path.{◌∙◌}
 use borrow.Author.Rules.{rules}
 use borrow.Author.Tests.{le-leb, lt-leb}
 use lib.ListN.{length}
 use lib.Seq.{length-sets}
-use Rattle.hex_encode.specs.Text.{digits, text, put_line, put_line_at}
+use Rattle.hex_encode.specs.Text.{text, put_line, put_line_at}
 use Rattle.hex_encode.proofs.Written.{length_digits, length_text, put_last}
 use Rattle.hex_encode.proofs.put_line.Statement.{statement}
 use Rattle.hex_encode.proofs.put_line.Tie as tie

@@ -1,7 +1,6 @@
 -- `ledger::difference` meets its contract. Assumes nothing.
 use native.Mathlib.Omega.{arith}
 use mir.Facts.{to_z-of_z}
-use borrow.Author.Rules.{rules}
 use Rattle.ledger.proofs.Sizes.{difference_fits}
 use Rattle.ledger.proofs.difference.Statement.{statement}
 use Rattle.ledger.proofs.difference.Tie as tie

@@ -1,7 +1,7 @@
 -- `ledger::entry_too_large` meets its contract. Assumes nothing.
-use Prim.Native.Nat.{◌^◌, ◌<◌, ◌≤◌}
+use Prim.Native.Nat.{◌^◌}
 use native.Mathlib.Omega.{arith}
-use mathlib.Core.Path.{◌≡◌, ap, sym, ◌∙◌}
+use mathlib.Core.Path.{◌≡◌, ap, ◌∙◌}
 use mathlib.Core.Bool.{or-true}
 use lib.IntN.{nat_abs}
 use mir.Syntax.{w64}

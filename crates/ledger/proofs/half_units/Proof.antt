@@ -1,7 +1,7 @@
 -- `ledger::half_units` meets its contract. Assumes nothing.
 use native.Mathlib.Omega.{arith}
-use mathlib.Core.Path.{◌≡◌, ap, ◌∙◌}
-use lib.IntN.{ℤ, pos, nat_abs, ◌+ℤ◌}
+use mathlib.Core.Path.{◌≡◌, ◌∙◌}
+use lib.IntN.{◌+ℤ◌}
 use mir.Syntax.{w64}
 use mir.Val.{SFits}
 use mir.Facts.{to_z-of_z}

@@ -1,9 +1,8 @@
 -- `ledger::payment` meets its contract, by the sign of the debt. Assumes nothing.
 use native.Mathlib.Nat.{min-le_left}
 use native.Mathlib.Omega.{arith}
-use mathlib.Core.Path.{◌≡◌, ap, sym, ◌∙◌}
-use lib.IntN.{ℤ, pos, nat_abs, ◌-ℤ◌}
-use lib.Signed.{lt_z}
+use mathlib.Core.Path.{◌≡◌, ap, ◌∙◌}
+use lib.IntN.{pos, nat_abs, ◌-ℤ◌}
 use Prim.Native.Nat.{min, ◌^◌, ◌<◌}
 use mir.Syntax.{w64}
 use mir.Val.{SFits}

@@ -1,7 +1,6 @@
 -- `ledger::sum` meets its contract. Assumes nothing.
 use native.Mathlib.Omega.{arith}
 use mir.Facts.{to_z-of_z}
-use borrow.Author.Rules.{rules}
 use Rattle.ledger.proofs.Sizes.{sum_fits}
 use Rattle.ledger.proofs.sum.Statement.{statement}
 use Rattle.ledger.proofs.sum.Tie as tie

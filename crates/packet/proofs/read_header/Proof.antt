@@ -1,7 +1,6 @@
 -- `packet::read_header` meets its contract: the fields of the first 48 octets are the packet's. Assumes nothing.
 use native.Mathlib.Omega.{arith}
-use mathlib.Core.Path.{◌≡◌, sym, ◌∙◌}
-use lib.ListN.{length}
+use mathlib.Core.Path.{sym}
 use lib.Seq.{length-take-le}
 use borrow.Author.Tests.{lt-ltb, le-ltb}
 use Rattle.packet.proofs.RoundTrips.{fields_of_take}

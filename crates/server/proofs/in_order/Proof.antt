@@ -1,5 +1,5 @@
 -- `server::in_order` meets its contract: the difference's bits are below 2^63 where it is neither 2^63 nor negative. Assumes nothing.
-use Rattle.std.proofs.Common.{◌≡◌, ℕ, ◌^◌, ◌<◌, Bool, true, false, not, ◌||◌, T, ltb, pos, ◌-ℤ◌, sym, refl, ◌∙◌, arith, rules, le-ltb, lt-ltb}
+use Rattle.std.proofs.Common.{◌≡◌, ℕ, ◌^◌, ◌<◌, Bool, true, false, not, ◌||◌, T, ltb, pos, ◌-ℤ◌, sym, refl, arith, rules, le-ltb, lt-ltb}
 use native.Mathlib.Decide.{dec_lt}
 use Rattle.arithmetic.specs.TwosComplement.{signed}
 use Rattle.arithmetic.proofs.Integers.{minus, integers_test}

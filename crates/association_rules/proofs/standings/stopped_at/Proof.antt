@@ -1,11 +1,10 @@
 -- `association_rules::stopped_at` meets its contract. Assumes nothing.
-use Prim.Native.Nat.{◌≤◌, ◌<◌}
+use Prim.Native.Nat.{◌≤◌}
 use mathlib.Core.Path.{sym}
 use mathlib.Core.Bool.{false}
 use native.Mathlib.Omega.{arith}
 use borrow.Author.Rules.{rules}
 use lib.ListN.{length, get_or-eq_default}
-use Rattle.association_rules.proofs.Records.{within}
 use Rattle.association_rules.proofs.standings.stopped_at.Statement.{statement}
 use Rattle.association_rules.proofs.standings.stopped_at.Tie as tie
 

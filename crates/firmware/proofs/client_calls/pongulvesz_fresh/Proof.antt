@@ -1,5 +1,5 @@
 -- `firmware::pongulvesz_fresh` meets its contract. Assumes nothing.
-use mathlib.Core.Path.{refl, ap, ◌∙◌}
+use mathlib.Core.Path.{ap, ◌∙◌}
 use borrow.Author.Rules.{rules}
 use borrow.Author.Tests.{eq-eqb, ne_eqb}
 use Rattle.firmware_layouts.specs.Image.{with_image}

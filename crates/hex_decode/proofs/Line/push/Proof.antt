@@ -1,5 +1,5 @@
 -- `hex_decode::Line::push` meets its contract: its tests are the definition's. Assumes nothing.
-use mathlib.Core.Path.{◌≡◌, sym, ◌∙◌}
+use mathlib.Core.Path.{◌∙◌}
 use borrow.Author.Rules.{rules}
 use borrow.Author.Tests.{leb-false, le-leb, lt-leb}
 use Rattle.hex_decode.specs.Lines.{pushed, pushed_buffer}

@@ -1,5 +1,5 @@
 -- `timestamp::Timestamp::minus` meets its contract: what wraps to `self` when `other` is added has the difference's bits. Assumes nothing.
-use Rattle.std.proofs.Common.{◌≡◌, sym, ap, ◌∙◌, arith, w64, rules}
+use Rattle.std.proofs.Common.{◌≡◌, sym, arith, w64, rules}
 use Rattle.arithmetic.specs.TwosComplement.{signed}
 use Rattle.arithmetic.proofs.TwosComplement.{difference_wraps}
 use Rattle.arithmetic.proofs.Machine.{held_result}
