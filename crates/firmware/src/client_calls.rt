@@ -17,8 +17,7 @@ use token::Token;
 const IMAGE_NOT_LEGAL: u32 = refusals::IMAGE_NOT_LEGAL as u32;
 
 // The image of a client that has never asked.
-#[unsafe(no_mangle)]
-pub extern "C" fn pongulvesz_fresh(image: &mut [u8]) -> u32
+pub fn pongulvesz_fresh(image: &mut [u8]) -> u32
     ensures number { result ≡ fresh_number image.old }
     ensures image { image.new ≡ fresh_image image.old }
 {
@@ -71,8 +70,7 @@ fn end_arrival(image: &mut [u8], answer: &mut [u8], arrived: Arrived) -> u32
 }
 
 // `Client::ask`: the client request of RFC 4330, section 5.
-#[unsafe(no_mangle)]
-pub extern "C" fn pongulvesz_ask(
+pub fn pongulvesz_ask(
     image: &mut [u8],
     buffer: &mut [u8],
     version: u32,
@@ -98,8 +96,7 @@ pub extern "C" fn pongulvesz_ask(
 }
 
 // `Client::arrival`: the client's checks of a server reply (RFC 4330, section 5). `alternate` tells whether an alternate server exists: 0 is no.
-#[unsafe(no_mangle)]
-pub extern "C" fn pongulvesz_arrival(
+pub fn pongulvesz_arrival(
     image: &mut [u8],
     answer: &mut [u8],
     t4: u64,
@@ -121,8 +118,7 @@ pub extern "C" fn pongulvesz_arrival(
 }
 
 // `Client::give_up`: the request has timed out (RFC 4330, section 10).
-#[unsafe(no_mangle)]
-pub extern "C" fn pongulvesz_give_up(image: &mut [u8], uptime: u64) -> u32
+pub fn pongulvesz_give_up(image: &mut [u8], uptime: u64) -> u32
     ensures number { result ≡ number image.old (give_up uptime) }
     ensures image { image.new ≡ image_after image.old (give_up uptime) }
 {

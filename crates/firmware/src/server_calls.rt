@@ -25,8 +25,7 @@ pub fn settings_of(
 }
 
 // `server::reply`: the reply to a request that was received at T2 and is sent at T3 (RFC 4330, section 6).
-#[unsafe(no_mangle)]
-pub extern "C" fn pongulvesz_reply(
+pub fn pongulvesz_reply(
     synchronised: u32,
     leap: u32,
     precision: i32,

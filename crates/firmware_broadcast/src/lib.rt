@@ -14,8 +14,7 @@ use packet::WriteAnswer;
 use timestamp::Timestamp;
 
 // `broadcast::write`. Refusals, in order: 1, 22, 23, 41, and when synchronised 14.
-#[unsafe(no_mangle)]
-pub extern "C" fn pongulvesz_broadcast(
+pub fn pongulvesz_broadcast(
     synchronised: u32,
     leap: u32,
     precision: i32,
@@ -43,8 +42,7 @@ pub extern "C" fn pongulvesz_broadcast(
 }
 
 // `broadcast::arrival`. Refusals, in order: 7, 36, 37, 38, 39, 40, 3, 43.
-#[unsafe(no_mangle)]
-pub extern "C" fn pongulvesz_broadcast_arrival(t4: u64, packet: &[u8], difference: &mut i64) -> u32
+pub fn pongulvesz_broadcast_arrival(t4: u64, packet: &[u8], difference: &mut i64) -> u32
     ensures number { result ≡ arrival_number (broadcast_arrived packet.now (timestamps.timestamp t4)) }
     ensures difference { difference.new ≡ difference_after difference.old (broadcast_arrived packet.now (timestamps.timestamp t4)) }
 {

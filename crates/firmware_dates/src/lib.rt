@@ -13,8 +13,7 @@ use firmware::numbers::narrow;
 use timestamp::Timestamp;
 
 // `calendar::date_of_timestamp`. Refusals: 24.
-#[unsafe(no_mangle)]
-pub extern "C" fn pongulvesz_date(
+pub fn pongulvesz_date(
     timestamp: u64,
     year: &mut u32,
     month: &mut u32,
@@ -67,8 +66,7 @@ fn narrowed_date(
 }
 
 // `calendar::timestamp_of_date`. Refusals, in order: 25, 26, 24.
-#[unsafe(no_mangle)]
-pub extern "C" fn pongulvesz_timestamp_of_date(
+pub fn pongulvesz_timestamp_of_date(
     year: u32,
     month: u32,
     day: u32,

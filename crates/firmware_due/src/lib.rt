@@ -24,8 +24,7 @@ fn tell(due: Due, uptime: &mut u64) -> u32
 }
 
 // `due::ask_due`: the first uptime at which an ask is not refused by 6. Refusals, in order: 46, 4, 5, 6.
-#[unsafe(no_mangle)]
-pub extern "C" fn pongulvesz_ask_due(image: &[u8], uptime: &mut u64) -> u32
+pub fn pongulvesz_ask_due(image: &[u8], uptime: &mut u64) -> u32
     ensures number { result ≡ number_of (ask_due image.now) }
     ensures uptime { uptime.new ≡ uptime_after uptime.old (ask_due image.now) }
 {
@@ -36,8 +35,7 @@ pub extern "C" fn pongulvesz_ask_due(image: &[u8], uptime: &mut u64) -> u32
 }
 
 // `due::give_up_due`: the first uptime at which a give-up is not refused by 20. Refusals, in order: 46, 8, 20.
-#[unsafe(no_mangle)]
-pub extern "C" fn pongulvesz_give_up_due(image: &[u8], uptime: &mut u64) -> u32
+pub fn pongulvesz_give_up_due(image: &[u8], uptime: &mut u64) -> u32
     ensures number { result ≡ number_of (give_up_due image.now) }
     ensures uptime { uptime.new ≡ uptime_after uptime.old (give_up_due image.now) }
 {

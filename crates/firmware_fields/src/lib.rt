@@ -11,8 +11,7 @@ use extension_writer::AddAnswer;
 const FIELD_TOO_LARGE: u32 = refusals::FIELD_TOO_LARGE as u32;
 
 // `extension::begin`. Refusals: 7.
-#[unsafe(no_mangle)]
-pub extern "C" fn pongulvesz_fields(packet: &[u8], cursor: &mut usize) -> u32
+pub fn pongulvesz_fields(packet: &[u8], cursor: &mut usize) -> u32
     ensures number { result ≡ begin_number (reader.begun packet.now) }
     ensures cursor { cursor.new ≡ cursor_after cursor.old (reader.begun packet.now) }
 {
@@ -26,8 +25,7 @@ pub extern "C" fn pongulvesz_fields(packet: &[u8], cursor: &mut usize) -> u32
 }
 
 // `extension::next`. Refusals: 7.
-#[unsafe(no_mangle)]
-pub extern "C" fn pongulvesz_next_field(
+pub fn pongulvesz_next_field(
     packet: &[u8],
     cursor: &mut usize,
     found: &mut u32,
@@ -63,8 +61,7 @@ pub extern "C" fn pongulvesz_next_field(
 }
 
 // `extension_writer::add`; a type of more than 16 bits is refused by 27 before anything else. Refusals, in order: 27, 7, 44.
-#[unsafe(no_mangle)]
-pub extern "C" fn pongulvesz_add_field(
+pub fn pongulvesz_add_field(
     buffer: &mut [u8],
     size: &mut usize,
     field_type: u32,

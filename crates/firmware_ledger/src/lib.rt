@@ -9,8 +9,7 @@ use firmware::numbers::narrow;
 use ledger::{EntryAnswer, Ledger, TickAnswer};
 
 // `Ledger::entry`. Refusals, in order: 29, 30, 31.
-#[unsafe(no_mangle)]
-pub extern "C" fn pongulvesz_entry(debt: &mut i64, offset: i64, half: u32) -> u32
+pub fn pongulvesz_entry(debt: &mut i64, offset: i64, half: u32) -> u32
     ensures number { result ≡ number_in_entry (entry_of debt.old offset half).answer }
     ensures debt { debt.new ≡ (entry_of debt.old offset half).ledger.debt }
 {
@@ -26,8 +25,7 @@ pub extern "C" fn pongulvesz_entry(debt: &mut i64, offset: i64, half: u32) -> u3
 }
 
 // `Ledger::tick`. Refusals, in order: 29, 32.
-#[unsafe(no_mangle)]
-pub extern "C" fn pongulvesz_tick(debt: &mut i64, limit: u64, paid: &mut i64) -> u32
+pub fn pongulvesz_tick(debt: &mut i64, limit: u64, paid: &mut i64) -> u32
     ensures number { result ≡ number_in_tick (tick_of debt.old limit).answer }
     ensures debt { debt.new ≡ (tick_of debt.old limit).ledger.debt }
     ensures paid { paid.new ≡ paid_after paid.old (tick_of debt.old limit).answer }

@@ -63,8 +63,7 @@ fn end_arrival(list: &mut [u8], at: usize, answer: &mut [u8], arrived: ArrivedBy
 }
 
 // `associations::ask`: the client request of RFC 4330, section 5, to one of the servers.
-#[unsafe(no_mangle)]
-pub extern "C" fn pongulvesz_list_ask(
+pub fn pongulvesz_list_ask(
     list: &mut [u8],
     at: usize,
     in_use: usize,
@@ -98,8 +97,7 @@ pub extern "C" fn pongulvesz_list_ask(
 }
 
 // `associations::arrival`: the client's checks of a server reply (RFC 4330, section 5). The list tells whether an alternate server exists.
-#[unsafe(no_mangle)]
-pub extern "C" fn pongulvesz_list_arrival(
+pub fn pongulvesz_list_arrival(
     list: &mut [u8],
     at: usize,
     in_use: &mut usize,
@@ -135,13 +133,7 @@ pub extern "C" fn pongulvesz_list_arrival(
 }
 
 // `associations::give_up`: the request to one of the servers has timed out (RFC 4330, section 10).
-#[unsafe(no_mangle)]
-pub extern "C" fn pongulvesz_list_give_up(
-    list: &mut [u8],
-    at: usize,
-    in_use: usize,
-    uptime: u64,
-) -> u32
+pub fn pongulvesz_list_give_up(list: &mut [u8], at: usize, in_use: usize, uptime: u64) -> u32
     ensures number { result ≡ number list.old at in_use (give_up uptime) }
     ensures list { list.new ≡ list_after list.old at in_use (give_up uptime) }
 {

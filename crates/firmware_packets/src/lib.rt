@@ -14,8 +14,7 @@ use timestamp::{Difference, Timestamp};
 use twos_complement::{bits8, bits32, signed8, signed32};
 
 // `timestamp::Timestamp::minus`. Refusals: 43.
-#[unsafe(no_mangle)]
-pub extern "C" fn pongulvesz_difference(x: u64, y: u64, difference: &mut i64) -> u32
+pub fn pongulvesz_difference(x: u64, y: u64, difference: &mut i64) -> u32
     ensures number { result ≡ difference_number (ordered (timestamps.timestamp x since timestamps.timestamp y)) }
     ensures difference { difference.new ≡ difference_after difference.old (ordered (timestamps.timestamp x since timestamps.timestamp y)) }
 {
@@ -29,8 +28,7 @@ pub extern "C" fn pongulvesz_difference(x: u64, y: u64, difference: &mut i64) ->
 }
 
 // `offset::measure`. Refusals, in order: 43, 15, 16, 43, 17, 18, 43, 43, 19.
-#[unsafe(no_mangle)]
-pub extern "C" fn pongulvesz_measure(
+pub fn pongulvesz_measure(
     t1: u64,
     t2: u64,
     t3: u64,
@@ -85,8 +83,7 @@ fn numbers_of(fields: Fields) -> [u64; FIELDS]
 }
 
 // `packet::read`. Refusals: 7.
-#[unsafe(no_mangle)]
-pub extern "C" fn pongulvesz_read_fields(packet: &[u8], fields: &mut [u64; FIELDS]) -> u32
+pub fn pongulvesz_read_fields(packet: &[u8], fields: &mut [u64; FIELDS]) -> u32
     ensures number { result ≡ read_number (read_answer packet.now) }
     ensures fields { fields.new ≡ fields_after fields.old (read_answer packet.now) }
 {
@@ -136,8 +133,7 @@ fn fields_in(n: [u64; FIELDS]) -> Fields
 }
 
 // `packet::write`. Refusals, in order: 1, 27, also for a number that is too wide for its field.
-#[unsafe(no_mangle)]
-pub extern "C" fn pongulvesz_write_fields(fields: &[u64; FIELDS], buffer: &mut [u8]) -> u32
+pub fn pongulvesz_write_fields(fields: &[u64; FIELDS], buffer: &mut [u8]) -> u32
     ensures number { result ≡ write_number fields.now buffer.old }
     ensures buffer { buffer.new ≡ buffer_after fields.now buffer.old }
 {

@@ -15,12 +15,7 @@ use timestamp::Timestamp;
 use unix_time::{UnixTime, UnixTimeAnswer};
 
 // `unix_time::unix_time_of_timestamp`. Refusals: 24.
-#[unsafe(no_mangle)]
-pub extern "C" fn pongulvesz_unix_time(
-    timestamp: u64,
-    seconds: &mut i64,
-    nanoseconds: &mut u32,
-) -> u32
+pub fn pongulvesz_unix_time(timestamp: u64, seconds: &mut i64, nanoseconds: &mut u32) -> u32
     ensures number { result ≡ unix_number (unix_time_of (timestamps.timestamp timestamp)) }
     ensures seconds { seconds.new ≡ seconds_after seconds.old (unix_time_of (timestamps.timestamp timestamp)) }
     ensures nanoseconds { nanoseconds.new ≡ nanoseconds_after nanoseconds.old (unix_time_of (timestamps.timestamp timestamp)) }
@@ -37,12 +32,7 @@ pub extern "C" fn pongulvesz_unix_time(
 }
 
 // `unix_time::timestamp_of_unix_time`. Refusals, in order: 25, 26, 24.
-#[unsafe(no_mangle)]
-pub extern "C" fn pongulvesz_timestamp_of_unix_time(
-    seconds: i64,
-    nanoseconds: u32,
-    timestamp: &mut u64,
-) -> u32
+pub fn pongulvesz_timestamp_of_unix_time(seconds: i64, nanoseconds: u32, timestamp: &mut u64) -> u32
     ensures number { result ≡ timestamp_number (timestamp_of (unix_of seconds nanoseconds)) }
     ensures timestamp { timestamp.new ≡ timestamp_after timestamp.old (timestamp_of (unix_of seconds nanoseconds)) }
 {
@@ -59,8 +49,7 @@ pub extern "C" fn pongulvesz_timestamp_of_unix_time(
 }
 
 // `time_protocol::write`. Refusals: 45.
-#[unsafe(no_mangle)]
-pub extern "C" fn pongulvesz_write_count(count: u32, buffer: &mut [u8]) -> u32
+pub fn pongulvesz_write_count(count: u32, buffer: &mut [u8]) -> u32
     ensures number { result ≡ write_number (write_answer buffer.old) }
     ensures buffer { buffer.new ≡ written count buffer.old }
 {
@@ -71,8 +60,7 @@ pub extern "C" fn pongulvesz_write_count(count: u32, buffer: &mut [u8]) -> u32
 }
 
 // `time_protocol::read`. Refusals: 45.
-#[unsafe(no_mangle)]
-pub extern "C" fn pongulvesz_read_count(octets: &[u8], count: &mut u32) -> u32
+pub fn pongulvesz_read_count(octets: &[u8], count: &mut u32) -> u32
     ensures number { result ≡ count_number (read_answer octets.now) }
     ensures count { count.new ≡ count_after count.old (read_answer octets.now) }
 {
@@ -86,8 +74,7 @@ pub extern "C" fn pongulvesz_read_count(octets: &[u8], count: &mut u32) -> u32
 }
 
 // `precision::precision_of_tick`. Refusals: 28.
-#[unsafe(no_mangle)]
-pub extern "C" fn pongulvesz_precision(tick: u64, precision: &mut i32) -> u32
+pub fn pongulvesz_precision(tick: u64, precision: &mut i32) -> u32
     ensures number { result ≡ precision_number (precision_of tick) }
     ensures precision { precision.new ≡ precision_after precision.old (precision_of tick) }
 {

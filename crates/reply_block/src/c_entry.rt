@@ -7,8 +7,7 @@ use crate::reply_block;
 use firmware::server_calls::settings_of;
 
 // `reply_block` with the settings of `pongulvesz_reply`.
-#[unsafe(no_mangle)]
-pub extern "C" fn pongulvesz_reply_block(
+pub fn pongulvesz_reply_block(
     synchronised: u32,
     leap: u32,
     precision: i32,

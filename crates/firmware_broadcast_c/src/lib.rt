@@ -1,0 +1,46 @@
+// For C (docs/C.md): broadcast. Each export calls the function of `firmware_broadcast` of the same name, and promises the same.
+#![tactic(auto)]
+
+ghost use Rattle.std.specs.Prelude.{◌≡◌, length};
+ghost use Rattle.timestamp.specs.Timestamp as timestamps;
+ghost use Rattle.broadcast.specs.Broadcast.{broadcast_arrived};
+ghost use Rattle.firmware.specs.Server.{settings};
+ghost use Rattle.firmware_broadcast.specs.Broadcast.{write_number, write_answer, buffer_after, arrival_number, difference_after};
+
+// `broadcast::write`. Refusals, in order: 1, 22, 23, 41, and when synchronised 14.
+#[unsafe(no_mangle)]
+pub extern "C" fn pongulvesz_broadcast(
+    synchronised: u32,
+    leap: u32,
+    precision: i32,
+    identifier: u32,
+    reference: u64,
+    version: u32,
+    poll: u32,
+    t3: u64,
+    buffer: &mut [u8],
+) -> u32
+    ensures number { result ≡ write_number (write_answer (settings synchronised leap precision identifier reference) version poll t3 (length buffer.old)) }
+    ensures buffer { buffer.new ≡ buffer_after (settings synchronised leap precision identifier reference) version poll t3 buffer.old }
+{
+    firmware_broadcast::pongulvesz_broadcast(
+        synchronised,
+        leap,
+        precision,
+        identifier,
+        reference,
+        version,
+        poll,
+        t3,
+        buffer,
+    )
+}
+
+// `broadcast::arrival`. Refusals, in order: 7, 36, 37, 38, 39, 40, 3, 43.
+#[unsafe(no_mangle)]
+pub extern "C" fn pongulvesz_broadcast_arrival(t4: u64, packet: &[u8], difference: &mut i64) -> u32
+    ensures number { result ≡ arrival_number (broadcast_arrived packet.now (timestamps.timestamp t4)) }
+    ensures difference { difference.new ≡ difference_after difference.old (broadcast_arrived packet.now (timestamps.timestamp t4)) }
+{
+    firmware_broadcast::pongulvesz_broadcast_arrival(t4, packet, difference)
+}
