@@ -1,104 +1,102 @@
 // The calls of a client and a server of ours, each with the line that tells what it answered.
-use crate::print::{decimal, hexadecimal, measured, refused, text};
+use crate::print::{measured, refused};
 use client::{CallAnswer, Called, Client};
 use packet::FieldsAnswer;
 use reply_checks::ArrivalAnswer;
 use server::ReplyAnswer;
 use server_packet::Settings;
+use std::io;
 use timestamp::Timestamp;
 use token::Token;
 
 // What an ask or a give-up answers; the next record is handed on.
-fn show_call(next: Called) -> Client {
-    let answer = next.answer;
-    match answer {
-        CallAnswer::Refused(n) => refused(n),
-        CallAnswer::Done => text(b"done\n"),
+fn show_call(rt: &impl Print, next: Called) -> io::Result<Client> {
+    match next.answer {
+        CallAnswer::Refused(n) => refused(rt, n)?,
+        CallAnswer::Done => println!(rt; "done")?,
     }
-    next.client
+    Ok(next.client)
 }
 
 // The token is 1 more than the last one. A real caller takes it from a source of random numbers.
 pub(crate) fn ask(
+    rt: &impl Print,
     client: Client,
     packet: &mut [u8],
     clock: u64,
     token: u64,
     uptime: u64,
-) -> Client {
-    text(b"ask: ");
-    show_call(client.ask(
-        packet,
-        4,
-        Timestamp::from_units(clock),
-        Token(token),
-        uptime,
-    ))
+) -> io::Result<Client> {
+    print!(rt; "ask: ")?;
+    let clock = Timestamp::from_units(clock);
+    show_call(rt, client.ask(packet, 4, clock, Token(token), uptime))
 }
 
-pub(crate) fn give_up(client: Client, uptime: u64) -> Client {
-    text(b"give up: ");
-    show_call(client.give_up(uptime))
+pub(crate) fn give_up(rt: &impl Print, client: Client, uptime: u64) -> io::Result<Client> {
+    print!(rt; "give up: ")?;
+    show_call(rt, client.give_up(uptime))
 }
 
-fn show_arrived(answer: ArrivalAnswer) {
+fn show_arrived(rt: &impl Print, answer: ArrivalAnswer) -> io::Result<()> {
     match answer {
-        ArrivalAnswer::Refused(n) => refused(n),
+        ArrivalAnswer::Refused(n) => refused(rt, n),
         ArrivalAnswer::Accepted {
             offset,
             half,
             delay,
         } => {
-            text(b"accepted, ");
-            measured(offset, half, delay);
+            print!(rt; "accepted, ")?;
+            measured(rt, offset, half, delay)
         }
-        ArrivalAnswer::Kiss { code, row } => {
-            text(b"kiss, code ");
-            hexadecimal(code as u64, 8);
-            text(b" row ");
-            decimal(row as u64);
-            text(b"\n");
-        }
+        ArrivalAnswer::Kiss { code, row } => println!(rt; "kiss, code {code:08x} row {row}"),
     }
 }
 
-pub(crate) fn arrival(client: Client, packet: &[u8], t4: u64, alternate: bool) -> Client {
-    text(b"arrival: ");
+pub(crate) fn arrival(
+    rt: &impl Print,
+    client: Client,
+    packet: &[u8],
+    t4: u64,
+    alternate: bool,
+) -> io::Result<Client> {
+    print!(rt; "arrival: ")?;
     let arrived = client.arrival(packet, Timestamp::from_units(t4), alternate);
-    let answer = arrived.answer;
-    show_arrived(answer);
-    arrived.client
+    show_arrived(rt, arrived.answer)?;
+    Ok(arrived.client)
 }
 
-fn show_timestamp(name: &[u8], t: Timestamp) {
-    text(name);
-    hexadecimal(t.0, 16);
+fn show_timestamp(rt: &impl Print, name: &str, t: Timestamp) -> io::Result<()> {
+    let units = t.0;
+    print!(rt; " {name} {units:016x}")
 }
 
-fn show_fields(packet: &[u8]) {
+fn show_fields(rt: &impl Print, packet: &[u8]) -> io::Result<()> {
     match packet::read(packet) {
-        FieldsAnswer::Refused(n) => refused(n),
+        FieldsAnswer::Refused(n) => refused(rt, n),
         FieldsAnswer::Fields(f) => {
-            text(b"leap indicator ");
-            decimal(f.leap as u64);
-            text(b" version ");
-            decimal(f.version as u64);
-            text(b" mode ");
-            decimal(f.mode as u64);
-            text(b" stratum ");
-            decimal(f.stratum as u64);
-            text(b" identifier ");
-            hexadecimal(f.identifier as u64, 8);
-            show_timestamp(b" reference ", f.reference);
-            show_timestamp(b" originate ", f.originate);
-            show_timestamp(b" receive ", f.receive);
-            show_timestamp(b" transmit ", f.transmit);
-            text(b"\n");
+            let leap = f.leap;
+            let version = f.version;
+            let mode = f.mode;
+            let stratum = f.stratum;
+            let identifier = f.identifier;
+            print!(rt;
+                "leap indicator {leap} version {version} mode {mode} stratum {stratum} identifier {identifier:08x}"
+            )?;
+            show_timestamp(rt, "reference", f.reference)?;
+            show_timestamp(rt, "originate", f.originate)?;
+            show_timestamp(rt, "receive", f.receive)?;
+            show_timestamp(rt, "transmit", f.transmit)?;
+            println!(rt; "")
         }
     }
 }
 
-pub(crate) fn reply(request: &[u8], synchronised: bool, buffer: &mut [u8]) {
+pub(crate) fn reply(
+    rt: &impl Print,
+    request: &[u8],
+    synchronised: bool,
+    buffer: &mut [u8],
+) -> io::Result<()> {
     let settings = Settings {
         synchronised,
         leap: 0,
@@ -108,9 +106,9 @@ pub(crate) fn reply(request: &[u8], synchronised: bool, buffer: &mut [u8]) {
     };
     let t2 = Timestamp::from_units(0x4_8000_0000);
     let t3 = Timestamp::from_units(0x5_8000_0000);
-    text(b"reply: ");
+    print!(rt; "reply: ")?;
     match server::reply(settings, request, t2, t3, buffer) {
-        ReplyAnswer::Refused(n) => refused(n),
-        ReplyAnswer::Written => show_fields(buffer),
+        ReplyAnswer::Refused(n) => refused(rt, n),
+        ReplyAnswer::Written => show_fields(rt, buffer),
     }
 }

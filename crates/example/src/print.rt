@@ -1,31 +1,13 @@
 // What is written to standard output.
-use libc::STDOUT_FILENO;
+use std::io;
 
-pub(crate) fn text(octets: &[u8]) {
-    io::write_all(STDOUT_FILENO, octets);
-}
-
-pub(crate) fn decimal(n: u64) {
-    io::print_decimal(STDOUT_FILENO, n);
-}
-
-pub(crate) fn hexadecimal(n: u64, digits: usize) {
-    io::print_hex(STDOUT_FILENO, n, digits);
-}
-
-pub(crate) fn refused(n: u8) {
-    text(b"refused ");
-    decimal(n as u64);
-    text(b"\n");
+pub(crate) fn refused(rt: &impl Print, n: u8) -> io::Result<()> {
+    println!(rt; "refused {n}")
 }
 
 // Offset and delay in two's complement, 16 digits.
-pub(crate) fn measured(offset: i64, half: u8, delay: i64) {
-    text(b"offset ");
-    hexadecimal(twos_complement::bits64(offset), 16);
-    text(b" half ");
-    decimal(half as u64);
-    text(b" delay ");
-    hexadecimal(twos_complement::bits64(delay), 16);
-    text(b"\n");
+pub(crate) fn measured(rt: &impl Print, offset: i64, half: u8, delay: i64) -> io::Result<()> {
+    let offset = twos_complement::bits64(offset);
+    let delay = twos_complement::bits64(delay);
+    println!(rt; "offset {offset:016x} half {half} delay {delay:016x}")
 }

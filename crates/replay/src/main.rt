@@ -4,8 +4,11 @@
 ghost use Rattle.std.specs.Prelude.{◌≤◌, length};
 ghost use Rattle.replay_lines.specs.Feed.{longest_line};
 
-use libc::{STDIN_FILENO, STDOUT_FILENO};
 use replay_lines::Replay;
+use std::io::{Read, Write};
+
+// How much a turn reads and writes: few calls of the system for much input.
+const BLOCK: usize = 65536;
 
 // Where the replay is, and whether the input goes on.
 #[derive(Clone, Copy)]
@@ -14,8 +17,9 @@ struct State {
     more: bool,
 }
 
-// Feeds all of the input; the output is written out as often as it is full. It has room for any one answer, so each turn takes something.
-fn feed_all(start: Replay, input: &[u8], output: &mut [u8]) -> Replay
+// Feeds all of the input; the output is written out as often as it is full. It has room for any one answer, so each turn takes something. A failed write loses its
+// answers, and the replay goes on.
+fn feed_all<W: Write>(start: Replay, input: &[u8], output: &mut [u8], writer: &mut W) -> Replay
     requires { longest_line ≤ length output.old }
 {
     let mut replay = start;
@@ -23,7 +27,7 @@ fn feed_all(start: Replay, input: &[u8], output: &mut [u8]) -> Replay
     while at < input.len() {
         let fed = replay.feed(&input[at..], output);
         let n = fed.written;
-        io::write_all(STDOUT_FILENO, &output[..n]);
+        let _ = writer.write_all(&output[..n]);
         replay = fed.replay;
         at += fed.consumed;
     }
@@ -31,44 +35,56 @@ fn feed_all(start: Replay, input: &[u8], output: &mut [u8]) -> Replay
 }
 
 // A read error counts as the end of the input.
-fn read_some(state: State, block: &mut [u8], output: &mut [u8]) -> State
+fn read_some<R: Read, W: Write>(
+    state: State,
+    block: &mut [u8],
+    output: &mut [u8],
+    reader: &mut R,
+    writer: &mut W,
+) -> State
     requires { longest_line ≤ length output.old }
 {
-    let got = libc::read(STDIN_FILENO, block);
-    let n = io::count(got, block);
+    let n = reader.read(block).unwrap_or(0);
     let replay = state.replay;
     State {
-        replay: feed_all(replay, &block[..n], output),
+        replay: feed_all(replay, &block[..n], output, writer),
         more: 0 < n,
     }
 }
 
-// A proved loop has to end, and nothing says that the input does: the loop counts its turns down, from a number that no run uses up.
-fn read_all(block: &mut [u8], output: &mut [u8]) -> Replay
+// A proved loop has to end, and nothing says that the input does: the loop counts its turns, to a number that no run uses up.
+fn read_all<R: Read, W: Write>(
+    block: &mut [u8],
+    output: &mut [u8],
+    reader: &mut R,
+    writer: &mut W,
+) -> Replay
     requires { longest_line ≤ length output.old }
 {
     let mut state = State {
         replay: Replay::begin(),
         more: true,
     };
-    let mut turns = u64::MAX;
-    while turns > 0 && state.more {
-        state = read_some(state, block, output);
-        turns -= 1;
+    for _ in 0..u64::MAX {
+        if !state.more {
+            break;
+        }
+        state = read_some(state, block, output, reader, writer);
     }
     state.replay
 }
 
 // Answers a line that is left over.
-fn end_input(replay: Replay, output: &mut [u8]) {
+fn end_input<W: Write>(replay: Replay, output: &mut [u8], writer: &mut W) {
     let ended = replay.end(output);
     let n = ended.written;
-    io::write_all(STDOUT_FILENO, &output[..n]);
+    let _ = writer.write_all(&output[..n]);
 }
 
-fn main() {
-    let mut block = io::large_buffer();
-    let mut output = io::large_buffer();
-    let replay = read_all(&mut block, &mut output);
-    end_input(replay, &mut output);
+fn main(rt: HostRuntime) {
+    let mut block = [0u8; BLOCK];
+    let mut output = [0u8; BLOCK];
+    let mut writer = rt.stdout();
+    let replay = read_all(&mut block, &mut output, &mut rt.stdin(), &mut writer);
+    end_input(replay, &mut output, &mut writer);
 }
