@@ -1,6 +1,7 @@
 -- `reply_checks::first_refusal` meets its contract: each return is at its row of the table. Assumes nothing.
 use mathlib.Core.Path.{refl, ap}
 use mathlib.Core.Bool.{not}
+use borrow.Author.Rules.{rules}
 use borrow.Author.Tests.{eq-eqb, ne_eqb}
 use Rattle.ordered_tests.specs.Tests.{Tests, pass}
 use Rattle.ordered_tests.proofs.Tests.{At, starts, goes_on, returned}
@@ -23,11 +24,12 @@ returns-2 c = returned (at_1 c.before.before) (ap not (ne_eqb _ _ c.if-f-ne4.tru
 at_2 : (c : tie.Else-f-ne4) → At 2 (table c.before.before.before.before.before)
 at_2 c = goes_on (at_1 c.before.before) (ap not (eq-eqb _ _ c.if-f-ne4.false))
 
-returns-3 : tie.Need-returns-then-f-version
-returns-3 c = returned (at_2 c.before.before) (ap not (ne_eqb _ _ c.if-f-version.true))
-
-returns-4 : tie.Need-returns
-returns-4 c = returned (goes_on (at_2 c.before.before) (ap not (eq-eqb _ _ c.if-f-version.false))) refl
-
+-- the last test's fact is found among those that are known, and not by the name of the test
 pub first_refusal_spec : {M : Type 1} → statement M
-first_refusal_spec = tie.close (tie.spec returns returns-2 returns-3 returns-4)
+first_refusal_spec =
+    tie.close
+    (tie.spec
+    returns
+    returns-2
+    (λ c. returned (at_2 c.before.before) (ap not (ne_eqb c.args.f.version c.args.version (search rules))))
+    (λ c. returned (goes_on (at_2 c.before.before) (ap not (eq-eqb c.args.f.version c.args.version (search rules)))) refl))

@@ -20,14 +20,7 @@ use Rattle.unix_time.specs.declared.UnixTime.{UnixTime}
 use Rattle.unix_time.proofs.timestamp_of_unix_time.Statement.{statement}
 use Rattle.unix_time.proofs.timestamp_of_unix_time.Tie as tie
 
-returns : tie.Need-returns-then-u-ge-SECOND
-unfolding timestamp_of
-returns c = simp (le-leb (10 ^ 9) c.args.u.nanoseconds (omega arith))
-
--- what the first test and the calls ensure of the Unix time itself
-below : (c : tie.Else-u-ge-SECOND) → c.args.u.nanoseconds < 10 ^ 9
-below c = omega arith
-
+-- what the calls ensure of the Unix time itself. The first test is found by arithmetic, and not by its name.
 window : (c : tie.After-in_window) → c.in_window.result ≡ inside (from_year0 c.args.u.seconds)
 window c =
     let f : SFits w64 c.args.u.seconds = search rules in
@@ -45,7 +38,7 @@ returns-2 : tie.Need-returns-then-not-in_window
 unfolding timestamp_of
 returns-2 c =
     let w = c.before in
-    simp (lt-leb (10 ^ 9) _ (below w.before.before), sym (window w) ∙ not-true _ (ap not c.if-not-in_window.true))
+    simp (lt-leb (10 ^ 9) c.args.u.nanoseconds (omega arith), sym (window w) ∙ not-true _ (ap not c.if-not-in_window.true))
 
 era_seconds-requires : tie.Need-era_seconds-requires
 era_seconds-requires c κs =
@@ -64,7 +57,7 @@ row : (c : tie.After-is_zero) → let t = c.from_seconds-t.result in let u = c.a
 row c =
     let n = c.before.before.before.before.before in
     let w = n.before in
-    rows _ _ (below w.before.before) (sym (window w) ∙ not-false _ (ap not n.if-not-in_window.false)) (counted c.before)
+    rows c.args.u _ (omega arith) (sym (window w) ∙ not-false _ (ap not n.if-not-in_window.false)) (counted c.before)
 
 returns-3 : tie.Need-returns-then-is_zero
 returns-3 c = rw (sym c.is_zero.ensures ∙ c.if-is_zero.true) at (row c.before)
@@ -77,7 +70,7 @@ timestamp_of_unix_time_spec =
     tie.close
     (tie.spec
     (λ c. search rules)
-    returns
+    (λ c. unfold timestamp_of in simp (le-leb (10 ^ 9) c.args.u.nanoseconds (omega arith)))
     (λ c κs. search rules)
     returns-2
     era_seconds-requires

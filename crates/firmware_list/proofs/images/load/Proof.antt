@@ -21,9 +21,6 @@ invariant_loop list legal₀ n records₀ i₀ legal records i =
 abbrev decreases_loop : tie.decreases-loop-i
 decreases_loop list legal₀ n records₀ i₀ legal records i = n - i
 
-returns : tie.Need-returns-then-list-ne0 invariant_loop decreases_loop
-returns c = let none = not_whole c.args.list.now c.if-list-ne0.true in ((refl, not_both none), sym none)
-
 loop-holds : tie.Need-loop-i-init invariant_loop decreases_loop
 loop-holds c = (omega arith, all_left _ _, λ k h. absurd (omega arith), refl)
 
@@ -31,7 +28,7 @@ returns-2 : tie.Need-returns-in-NotLegal invariant_loop decreases_loop
 returns-2 c =
     let list = c.args.list.now in
     let there = rw (span c.loop-i.i) at (no_image _ (sym c.read_image.ensures ∙ c.in-NotLegal.is)) in
-    let none = whole_is list false c.if-list-ne0.false (c.loop-i.invariant.1 ∙ illegal_there list (count list) c.loop-i.i (omega arith) there) in
+    let none = whole_is list false (omega arith) (c.loop-i.invariant.1 ∙ illegal_there list (count list) c.loop-i.i (omega arith) there) in
     ((c.loop-i.invariant.3, not_both none), sym none)
 
 loop-again : tie.Need-loop-i-preserved invariant_loop decreases_loop
@@ -48,9 +45,10 @@ loop-again c =
 returns-3 : tie.Need-returns invariant_loop decreases_loop
 returns-3 c =
     let list = c.args.list.now in
-    let all = whole_is list true c.if-list-ne0.false (c.loop-i.invariant.1 ∙ none_left list (count list) c.loop-i.i (omega arith)) in
+    let all = whole_is list true (omega arith) (c.loop-i.invariant.1 ∙ none_left list (count list) c.loop-i.i (omega arith)) in
     ((c.loop-i.invariant.3, λ is k h few. c.loop-i.invariant.2 k (omega arith) few), sym all)
 
+-- the fact of the first test is found by arithmetic, and not by the name of the test, which has the number in it
 pub load_spec : {M : Type 1} → statement M
 load_spec =
     tie.close
@@ -58,7 +56,7 @@ load_spec =
     invariant_loop
     decreases_loop
     (λ c κs. search rules)
-    returns
+    (λ c. let none = not_whole c.args.list.now (omega arith) in ((refl, not_both none), sym none))
     loop-holds
     (λ c. search rules)
     (λ c. search rules)
