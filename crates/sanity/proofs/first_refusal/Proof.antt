@@ -1,5 +1,7 @@
 -- `sanity::first_refusal` meets its contract: each return is at its row of the table, of the root delay as it is read back from its bits. Assumes nothing.
 use mathlib.Core.Path.{◌≡◌, refl}
+use native.Mathlib.Omega.{arith}
+use borrow.Author.Rules.{rules}
 use borrow.Author.Tests.{eq-eqb, ne_eqb, lt-ltb, le-ltb}
 use mir.Syntax.{w32}
 use mir.Val.{SFits}
@@ -19,35 +21,29 @@ returns c = returned {t = table c.before.before} starts (rw c.is_zero.ensures at
 at_1 : (c : tie.Else-is_zero) → At 1 (table c.before.before)
 at_1 c = goes_on starts (rw c.is_zero.ensures at c.if-is_zero.false)
 
-returns-2 : tie.Need-returns-then-f-eq3
-returns-2 c = returned (at_1 c.before.before) (eq-eqb _ _ c.if-f-eq3.true)
+-- past the tests of leap indicator and stratum. Their facts are found among those that are known, and not by the tests' names, which have the numbers in them.
+abbrev start3 : tie.After-is_zero-2 → tie.Start
+start3 c = c.before.before.before.before.before.before.before.before.before
 
-at_2 : (c : tie.Else-f-eq3) → At 2 (table c.before.before.before.before)
-at_2 c = goes_on (at_1 c.before.before) (ne_eqb _ _ c.if-f-eq3.false)
-
-returns-3 : tie.Need-returns-then-f-gt15
-returns-3 c = returned (at_2 c.before.before) (lt-ltb _ _ c.if-f-gt15.true)
-
-abbrev start3 : tie.Else-f-gt15 → tie.Start
-start3 c = c.before.before.before.before.before.before
-
-at_3 : (c : tie.Else-f-gt15) → At 3 (table (start3 c))
-at_3 c = goes_on (at_2 c.before.before) (le-ltb _ _ c.if-f-gt15.false)
+at_3 : (c : tie.After-is_zero-2) → At 3 (table (start3 c))
+at_3 c =
+    let e = c.before.before.before.before.before.before.before in
+    goes_on (goes_on (at_1 e) (ne_eqb c.args.f.leap 3 (search rules))) (le-ltb 15 c.args.f.stratum (omega arith))
 
 returns-4 : tie.Need-returns-then-is_zero-2
 returns-4 c =
     let second = c.before in
     let first = second.before in
-    returned (at_3 first.before.before.before) (rw (second.is_zero-3.ensures, first.is_zero-2.ensures) at c.if-is_zero-2.true)
+    returned (at_3 first) (rw (second.is_zero-3.ensures, first.is_zero-2.ensures) at c.if-is_zero-2.true)
 
 abbrev start4 : tie.Else-is_zero-2 → tie.Start
-start4 c = start3 c.before.before.before.before.before
+start4 c = start3 c.before.before
 
 at_4 : (c : tie.Else-is_zero-2) → At 4 (table (start4 c))
 at_4 c =
     let second = c.before in
     let first = second.before in
-    goes_on (at_3 first.before.before.before) (rw (second.is_zero-3.ensures, first.is_zero-2.ensures) at c.if-is_zero-2.false)
+    goes_on (at_3 first) (rw (second.is_zero-3.ensures, first.is_zero-2.ensures) at c.if-is_zero-2.false)
 
 -- what the call on the root delay answers
 delay : (c : tie.After-root_delay_out_of_range)
@@ -70,4 +66,18 @@ returns-7 : tie.Need-returns
 returns-7 c = returned (goes_on (at_5 c.before.before) (rw c.root_dispersion_too_large.ensures at c.if-root_dispersion_too_large.false)) refl
 
 pub first_refusal_spec : {M : Type 1} → statement M
-first_refusal_spec = tie.close (tie.spec _ returns returns-2 returns-3 _ _ returns-4 _ returns-5 _ returns-6 returns-7)
+first_refusal_spec =
+    tie.close
+    (tie.spec
+    _
+    returns
+    (λ c. returned (at_1 c.before.before) (eq-eqb c.args.f.leap 3 (omega arith)))
+    (λ c. returned (goes_on (at_1 c.before.before.before.before) (ne_eqb c.args.f.leap 3 (search rules))) (lt-ltb 15 c.args.f.stratum (omega arith)))
+    _
+    _
+    returns-4
+    _
+    returns-5
+    _
+    returns-6
+    returns-7)
