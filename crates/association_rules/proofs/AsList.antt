@@ -1,6 +1,6 @@
 -- What a call on the table of a list comes to is what the rules say of the list.
---     call-as-list, arrival-as-list    the answer with the number in use, and the list with what is stored
---     buffer-as-list                   what is left of a buffer
+--     call_as_list, arrival_as_list    the answer with the number in use, and the list with what is stored
+--     buffer_as_list                   what is left of a buffer
 use Prim.Native.Nat.{ℕ, ◌-◌, ◌≤◌}
 use mathlib.Core.Path.{◌≡◌, refl}
 use mathlib.Core.Bool.{Bool, true, false}

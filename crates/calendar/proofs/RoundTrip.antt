@@ -52,7 +52,7 @@ module _ (s f : ℕ) (h : s ≤ window_end) where
   unfolding seconds_to days_to date_at
   date_seconds = rw (day_is (s / 86400) (omega (arith, bounds))) (clock s)
 
--- a date, whose day is `of-year` in its year
+-- a date, whose day is `of_year` in its year
 module _ (d : Date) (e : Exists d) (h : seconds_to d ≤ window_end) where
   month : (0 < d.month) × (d.month < 13)
   month = month_range (leap_days d.year) d.month (omega arith)
