@@ -13,7 +13,7 @@ use Rattle.client.specs.declared.Client.{Client}
 use Rattle.client.specs.declared.Phase.{Phase}
 use Rattle.client.specs.declared.Phase.TheVariants.{Idle, Waiting, Stopped}
 use Rattle.client.specs.Record.{is_stopped}
-use Rattle.association_rules.specs.declared.Alternate.{Alternate}
+use Rattle.std.specs.Prelude.{Option, Some, None}
 use Rattle.association_rules.specs.Associations.{association, round, first_running, alternate}
 use Rattle.association_rules.specs.Alternates.{IsStopped, StoppedBefore, First, Alternates}
 
@@ -30,9 +30,9 @@ runs_is p e s = let z : true ≡ false = sym (ap is_stopped s) ∙ e in let y : 
 -- ---- the search
 
 -- what it finds
-abbrev Finds : List Client → ℕ → Alternate → Type 0
-Finds list at Alternate.None = StoppedBefore list at (length list)
-Finds list at (Alternate.Record i) = First list at i
+abbrev Finds : List Client → ℕ → Option ℕ → Type 0
+Finds list at None = StoppedBefore list at (length list)
+Finds list at (Some i) = First list at i
 
 module _ (list : List Client) (at : ℕ) where
   further : (k : ℕ) → StoppedBefore list at k → IsStopped list (round (length list) at k) → StoppedBefore list at (suc k)
@@ -51,7 +51,7 @@ module _ (list : List Client) (at : ℕ) where
     where
       go : (b : Bool) → is_stopped (association list (round (length list) at k)).phase ≡ b
           → (IsStopped list (round (length list) at k) → Finds list at (first_running (length list) list at (suc k) count))
-          → Finds list at (cond b (first_running (length list) list at (suc k) count) (Alternate.Record (round (length list) at k)))
+          → Finds list at (cond b (first_running (length list) list at (suc k) count) (Some (round (length list) at k)))
       go true e rest = rest (stopped_is _ e)
       go false e rest = record { k = k; other = (one, omega (arith, all)); is = refl; runs = runs_is _ e; before = before }
 

@@ -1,5 +1,3 @@
 pub mod Alternates
-pub mod AsList
-pub mod Effects
-pub mod Records
+pub mod Lists
 pub mod Running

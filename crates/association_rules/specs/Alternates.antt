@@ -1,8 +1,7 @@
 -- The alternate of a record is the first other record after it, round the list, that is not stopped. proofs/Alternates.antt proves `Alternates`.
-use Rattle.std.specs.Prelude.{ℕ, ◌≤◌, ◌<◌, ◌≡◌, ◌≢◌, List, length}
+use Rattle.std.specs.Prelude.{ℕ, ◌≤◌, ◌<◌, ◌≡◌, ◌≢◌, Some, None, List, length}
 use Rattle.client.specs.declared.Client.{Client}
 use Rattle.client.specs.declared.Phase.TheVariants.{Stopped}
-use Rattle.association_rules.specs.declared.Alternate.{Alternate}
 use Rattle.association_rules.specs.Associations.{association, round, alternate}
 
 module _ (list : List Client) where
@@ -22,7 +21,7 @@ module _ (list : List Client) where
     pub before : StoppedBefore at k
 
 pub record Alternates : Type 0 where
-  pub found : (list : List Client) (at i : ℕ) → alternate list at ≡ Alternate.Record i → First list at i
-  pub none : (list : List Client) (at : ℕ) → alternate list at ≡ Alternate.None → StoppedBefore list at (length list)
+  pub found : (list : List Client) (at i : ℕ) → alternate list at ≡ Some i → First list at i
+  pub none : (list : List Client) (at : ℕ) → alternate list at ≡ None → StoppedBefore list at (length list)
   -- it is another record of the list
-  pub in_list : (list : List Client) (at i : ℕ) → alternate list at ≡ Alternate.Record i → at < length list → (i < length list) × (i ≢ at)
+  pub in_list : (list : List Client) (at i : ℕ) → alternate list at ≡ Some i → at < length list → (i < length list) × (i ≢ at)

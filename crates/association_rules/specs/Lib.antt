@@ -1,4 +1,3 @@
 pub mod InUse
 pub mod Associations
 pub mod Alternates
-pub mod Table

@@ -1,22 +1,15 @@
 // Broadcast (RFC 4330, sections 5 and 6): the packet of a broadcast server, and its client, which sends no request and measures no delay. Both keep nothing.
 #![tactic(auto)]
 
-ghost use Rattle.std.specs.Prelude.{◌≡◌, ◌≤◌, ◌++◌, length, drop};
-ghost use Rattle.ordered_tests.specs.Tests.{number, answer, kept};
-ghost use Rattle.packet.specs.Packet.{packet_length, octets_of};
-ghost use Rattle.broadcast.specs.Broadcast.{broadcast_message, write_tests, broadcast_written, broadcast_buffer, field_tests, arrival_tests, broadcast_arrived};
+ghost use Rattle.std.specs.Prelude.{◌≡◌, length};
+ghost use Rattle.ordered_tests.specs.Tests.{given};
+ghost use Rattle.broadcast.specs.Broadcast.{broadcast_message, write_tests, broadcast_written, broadcast_buffer, field_tests, broadcast_arrived};
 
 use ordered_tests::between;
-use packet::{Fields, FieldsAnswer, WriteAnswer};
+use packet::Fields;
+use refusals::Refusal;
 use server_packet::{Message, Settings, out_of_range};
-use timestamp::{Difference, Timestamp};
-
-// The difference of T3 and T4: how far the server's clock is ahead, less the time that the packet travelled.
-#[derive(Clone, Copy)]
-pub enum BroadcastAnswer {
-    Refused(u8),
-    Difference(i64),
-}
+use timestamp::Timestamp;
 
 fn message(version: u8, poll: u8, t3: Timestamp) -> Message
     ensures { result ≡ broadcast_message version poll t3 }
@@ -31,82 +24,84 @@ fn message(version: u8, poll: u8, t3: Timestamp) -> Message
     }
 }
 
-fn first_write_refusal(settings: Settings, version: u8, poll: u8, t3: Timestamp, room: usize) -> u8
-    ensures { result ≡ number (write_tests settings version poll t3 room) }
+// The tests in order, of a broadcast packet to be written into a buffer of so many octets.
+#[tactic(auto, unfolding(crate::specs::Broadcast::write_tests))]
+fn check_write(
+    settings: Settings,
+    version: u8,
+    poll: u8,
+    t3: Timestamp,
+    room: usize,
+) -> Result<(), Refusal>
+    ensures { result ≡ given (write_tests settings version poll t3 room) }
 {
     if room < packet::LENGTH {
-        return refusals::BUFFER_TOO_SHORT;
+        return Err(Refusal::BufferTooShort);
     }
     if !between(1, 4, version) {
-        return refusals::REQUEST_VERSION_UNSUPPORTED;
+        return Err(Refusal::RequestVersionUnsupported);
     }
     if out_of_range(settings) {
-        return refusals::SETTINGS_OUT_OF_RANGE;
+        return Err(Refusal::SettingsOutOfRange);
     }
     if !between(4, 14, poll) {
-        return refusals::POLL_OUT_OF_RANGE;
+        return Err(Refusal::PollOutOfRange);
     }
     if settings.synchronised & t3.is_zero() {
-        return refusals::SERVER_TIMESTAMP_ZERO;
+        return Err(Refusal::ServerTimestampZero);
     }
-    0
+    Ok(())
 }
 
 // Writes a broadcast packet of this version and poll setting into the first 48 octets of the buffer; T3 is when it is sent.
+#[tactic(auto, using(crate::proofs::Broadcast::write_answers, crate::proofs::Broadcast::write_stores), unfolding(crate::specs::Broadcast::broadcast_written, crate::specs::Broadcast::broadcast_buffer))]
 pub fn write(
     settings: Settings,
     version: u8,
     poll: u8,
     t3: Timestamp,
     buffer: &mut [u8],
-) -> WriteAnswer
+) -> Result<(), Refusal>
     ensures answer { result ≡ broadcast_written settings version poll t3 (length buffer.old) }
     ensures buffer { buffer.new ≡ broadcast_buffer settings version poll t3 buffer.old }
 {
-    let n = first_write_refusal(settings, version, poll, t3, buffer.len());
-    if n != 0 {
-        return WriteAnswer::Refused(n);
-    }
-    // Not refused: the buffer is long enough, and no field is too large.
-    server_packet::write(settings, message(version, poll, t3), buffer);
-    WriteAnswer::Written
+    check_write(settings, version, poll, t3, buffer.len())?;
+    // No test refuses: the buffer is long enough, and no field is too large.
+    server_packet::try_write(settings, message(version, poll, t3), buffer)
 }
 
-// The tests in order, of a packet with these fields, and then the difference.
-fn check(f: Fields, t4: Timestamp) -> BroadcastAnswer
-    ensures { result ≡ answer BroadcastAnswer.Refused (field_tests f t4) }
+// The tests in order, of a packet with these fields, and then the difference of T3 and T4.
+#[tactic(auto, using(crate::proofs::Broadcast::told), unfolding(crate::specs::Broadcast::field_tests))]
+fn check(f: Fields, t4: Timestamp) -> Result<i64, Refusal>
+    ensures { result ≡ given (field_tests f t4) }
 {
     if f.mode != 5 {
-        return BroadcastAnswer::Refused(refusals::BROADCAST_MODE_WRONG);
+        return Err(Refusal::BroadcastModeWrong);
     }
     if !between(1, 4, f.version) {
-        return BroadcastAnswer::Refused(refusals::BROADCAST_VERSION_UNSUPPORTED);
+        return Err(Refusal::BroadcastVersionUnsupported);
     }
     if f.leap == 3 {
-        return BroadcastAnswer::Refused(refusals::BROADCAST_UNSYNCHRONISED);
+        return Err(Refusal::BroadcastUnsynchronised);
     }
     if !between(1, 15, f.stratum) {
-        return BroadcastAnswer::Refused(refusals::BROADCAST_STRATUM_WRONG);
+        return Err(Refusal::BroadcastStratumWrong);
     }
-    let transmit = f.transmit;
-    if transmit.is_zero() {
-        return BroadcastAnswer::Refused(refusals::BROADCAST_TRANSMIT_ZERO);
+    if f.transmit.is_zero() {
+        return Err(Refusal::BroadcastTransmitZero);
     }
     if t4.is_zero() {
-        return BroadcastAnswer::Refused(refusals::OWN_CLOCK_ZERO);
+        return Err(Refusal::OwnClockZero);
     }
-    match transmit.minus(t4) {
-        Difference::NoOrder => BroadcastAnswer::Refused(refusals::NO_ORDER),
-        Difference::Units(difference) => BroadcastAnswer::Difference(difference),
-    }
+    f.transmit.minus(t4).ok_or(Refusal::NoOrder)
 }
 
-// Arrival of a broadcast packet at the clock reading T4.
-pub fn arrival(packet: &[u8], t4: Timestamp) -> BroadcastAnswer
+// Arrival of a broadcast packet at the clock reading T4. The answer is the difference of T3 and T4: how far the server's clock is ahead, less the time that
+// the packet travelled.
+#[tactic(auto, using(packet::proofs::Packet::read_refused, packet::proofs::Packet::read_fields), unfolding(crate::specs::Broadcast::broadcast_arrived))]
+pub fn arrival(packet: &[u8], t4: Timestamp) -> Result<i64, Refusal>
     ensures { result ≡ broadcast_arrived packet.now t4 }
 {
-    match packet::read(packet) {
-        FieldsAnswer::Refused(n) => BroadcastAnswer::Refused(n),
-        FieldsAnswer::Fields(f) => check(f, t4),
-    }
+    let f = packet::read(packet)?;
+    check(f, t4)
 }

@@ -1,19 +1,14 @@
 -- What it is for a date to exist and to be in the window, and the eras and the window in numbers.
 use mathlib.Core.Path.{◌≡◌, refl}
-use mathlib.Core.Bool.{Bool, true, false, and-eq-true_iff}
+use mathlib.Core.Bool.{true}
 use Prim.Native.Nat.{ℕ, ◌≤◌, ◌<◌}
 use native.Mathlib.Omega.{arith}
-use borrow.Author.Tests.{leb-true, ltb-true, le-leb, lt-ltb}
-use lib.Dec.{leb, ltb}
+use Rattle.std.proofs.lemmas.Bool.Decides.{nat_tests}
 use Rattle.calendar.specs.Gregorian.{leap_days, year_days, month_days, before}
 use Rattle.calendar.specs.Dates.{exists, seconds_to, days_to}
 use Rattle.calendar.specs.Calendar.{in_window, start1900, start2036, window_start, window_end}
 use Rattle.calendar.specs.declared.Date.{Date}
 use Rattle.calendar.proofs.Months.{month_range}
-
-pub not_true_is_false : (b : Bool) → (b ≡ true → ⊥) → b ≡ false
-not_true_is_false true f = absurd (f refl)
-not_true_is_false false f = refl
 
 -- the tests of `exists` as facts
 pub record Exists (d : Date) : Type 0 where
@@ -25,25 +20,11 @@ pub record Exists (d : Date) : Type 0 where
 
 pub exists_has : (d : Date) → exists d ≡ true → Exists d
 unfolding exists
-exists_has d e =
-    let a = (and-eq-true_iff _ (ltb d.second 60)).0 e in
-    let b = (and-eq-true_iff _ (ltb d.minute 60)).0 a.0 in
-    let h = (and-eq-true_iff _ (ltb d.hour 24)).0 b.0 in
-    let y = (and-eq-true_iff (leb 1 d.day) _).0 h.0 in
-    record {
-      day_from = leb-true _ _ y.0;
-      day_to = leb-true _ _ y.1;
-      hours = ltb-true _ _ h.1;
-      minutes = ltb-true _ _ b.1;
-      seconds = ltb-true _ _ a.1;
-    }
+exists_has d e = record { day_from = grind (arith, nat_tests); day_to = grind (arith, nat_tests); hours = grind (arith, nat_tests); minutes = grind (arith, nat_tests); seconds = grind (arith, nat_tests) }
 
 pub exists_yes : (d : Date) → Exists d → exists d ≡ true
 unfolding exists
-exists_yes d e = simp (le-leb _ _ e.day_from, le-leb _ _ e.day_to, lt-ltb _ _ e.hours, lt-ltb _ _ e.minutes, lt-ltb _ _ e.seconds)
-
-pub exists_no : (d : Date) → (Exists d → ⊥) → exists d ≡ false
-exists_no d f = not_true_is_false (exists d) λ e. f (exists_has d e)
+exists_yes d e = grind (arith, nat_tests)
 
 pub exists_ranges : (d : Date) → exists d ≡ true → (0 < d.month) × (d.month < 13) × (0 < d.day)
 exists_ranges d t =
@@ -53,12 +34,11 @@ exists_ranges d t =
 
 pub window_has : (s : ℕ) → in_window s ≡ true → (window_start ≤ s) × (s ≤ window_end)
 unfolding in_window
-window_has s e =
-    let b = (and-eq-true_iff (leb window_start s) (leb s window_end)).0 e in (leb-true window_start s b.0, leb-true s window_end b.1)
+window_has s e = (grind (arith, nat_tests), grind (arith, nat_tests))
 
 pub window_yes : (s : ℕ) → window_start ≤ s → s ≤ window_end → in_window s ≡ true
 unfolding in_window
-window_yes s h l = simp (le-leb window_start s h, le-leb s window_end l)
+window_yes s h l = grind (arith, nat_tests)
 
 -- the starts of the eras and the ends of the window in numbers
 pub record Bounds : Type 0 where

@@ -1,14 +1,15 @@
 -- The months in closed form. Each law is a test that antt computes over the whole year, and one lemma that turns the test into the law.
 use mathlib.Core.Path.{◌≡◌, refl, sym, subst}
 use mathlib.Core.Bool.{Bool, true, false, cond, ◌&&◌, and-eq-true_iff}
-use mathlib.Core.List.{◌∷◌}
-use Prim.Native.Nat.{ℕ, zero, suc, ◌+◌, ◌-◌, ◌*◌, ◌/◌, ◌%◌, ◌≤◌, ◌<◌}
+use mathlib.Core.List.{List, [], ◌∷◌}
+use Prim.Native.Nat.{ℕ, zero, suc, ◌+◌, ◌-◌, ◌*◌, ◌/◌, ◌≤◌, ◌<◌}
 use native.Mathlib.Nat.{add-zero, not-suc-le-zero, zero-lt-suc, lt_of_not-le}
 use native.Mathlib.Numerals.{add-one}
 use native.Mathlib.Omega.{arith}
-use borrow.Author.Tests.{eqb-true, eqb-false, leb-false}
+use borrow.Author.Tests.{eqb-true, eqb-false, ltb-true, ltb-false, le-leb, lt-leb}
+use mir.Val.{bool_byte}
 use lib.Dec.{eqb, leb, ltb}
-use lib.ListN.{get_or-eq_default}
+use lib.ListN.{get_or, get_or-eq_default}
 use Rattle.calendar.specs.Gregorian.{leap_days, year_days, month_lengths, month_days, before, last}
 use Rattle.calendar.proofs.Before.{last_has}
 use Rattle.calendar.proofs.Years.{leap_small}
@@ -35,13 +36,13 @@ agree_at n f g t ℓ k h b =
     eqb-true (f ℓ k) (g ℓ k)
     (all_at (n ℓ) (λ k. eqb (f ℓ k) (g ℓ k)) (all_at 2 (λ ℓ. all (n ℓ) (λ k. eqb (f ℓ k) (g ℓ k))) t ℓ h) k b)
 
--- the days of the month m, as `days_in_month` computes them
-abbrev pub days_in : ℕ → ℕ → ℕ
-days_in ℓ m = cond (eqb m 0) 0 (cond (eqb m 2) (28 + ℓ) (30 + (m + m / 8) % 2))
+-- the table of the months' days, as the code has it
+abbrev lengths : List ℕ
+lengths = 0 ∷ 31 ∷ 28 ∷ 31 ∷ 30 ∷ 31 ∷ 30 ∷ 31 ∷ 31 ∷ 30 ∷ 31 ∷ 30 ∷ 31 ∷ []
 
-pub days_in_lem : (ℓ m : ℕ) → ℓ < 2 → m < 13 → days_in ℓ m ≡ month_days ℓ m
+pub days_in_february : (ℓ : ℕ) → month_days ℓ 2 ≡ 28 + ℓ
 unfolding month_days
-days_in_lem = agree_at (λ ℓ. 13) days_in month_days refl
+days_in_february ℓ = refl
 
 pub no_days_in : (ℓ m : ℕ) → 12 < m → month_days ℓ m ≡ 0
 unfolding month_days
@@ -53,22 +54,38 @@ unfolding month_days
 month_range ℓ zero h = absurd (not-suc-le-zero h)
 month_range ℓ (suc m) h = (zero-lt-suc m, lt_of_not-le λ g. omega (arith, no_days_in ℓ (suc m) g))
 
--- the days before the month m, as `days_before_month` computes them
-abbrev days_before : ℕ → ℕ → ℕ
-days_before ℓ m = cond (leb m 2) ((367 * m - 362) / 12) ((367 * m - 362) / 12 + ℓ - 2)
+-- the days of the other months do not depend on the leap day
+pub days_in : (ℓ m : ℕ) → (m ≡ 2 → ⊥) → get_or lengths m 0 ≡ month_days ℓ m
+unfolding month_days
+days_in ℓ zero ne = refl
+days_in ℓ (suc zero) ne = refl
+days_in ℓ (suc (suc zero)) ne = absurd (ne refl)
+days_in ℓ (suc (suc (suc m))) ne = refl
 
-pub days_before_lem : (ℓ m : ℕ) → ℓ < 2 → m < 13 → days_before ℓ m ≡ before (month_days ℓ) m
+-- the table of the days before them
+abbrev days_before_table : List ℕ
+days_before_table = 0 ∷ 0 ∷ 31 ∷ 59 ∷ 90 ∷ 120 ∷ 151 ∷ 181 ∷ 212 ∷ 243 ∷ 273 ∷ 304 ∷ 334 ∷ []
+
+days_before_lem : (ℓ m : ℕ) → ℓ < 2 → m < 13 → cond (leb m 2) (get_or days_before_table m 0) (get_or days_before_table m 0 + ℓ) ≡ before (month_days ℓ) m
 unfolding month_days before
-days_before_lem = agree_at (λ ℓ. 13) days_before (λ ℓ. before (month_days ℓ)) refl
+days_before_lem = agree_at (λ ℓ. 13) (λ ℓ m. cond (leb m 2) (get_or days_before_table m 0) (get_or days_before_table m 0 + ℓ)) (λ ℓ. before (month_days ℓ)) refl
+
+module _ (ℓ m : ℕ) (h : ℓ < 2) where
+  pub days_before_march : m ≤ 2 → get_or days_before_table m 0 ≡ before (month_days ℓ) m
+  days_before_march b = simp (le-leb m 2 b) at (days_before_lem ℓ m h (omega arith))
+
+  pub days_before : 2 < m → m < 13 → get_or days_before_table m 0 + ℓ ≡ before (month_days ℓ) m
+  days_before a b = simp (lt-leb m 2 a) at (days_before_lem ℓ m h b)
 
 -- the days to the month m, as `days_to_month` computes them: from March on counted from the next year
-pub days_to_lem : (y m : ℕ) → m < 13 → before year_days (y + cond (leb m 2) 0 1) + (367 * m - 362) / 12 ≡ before year_days y + before (month_days (leap_days y)) m + 367 * cond (leb m 2) 0 1
-days_to_lem y m h = go (leb m 2) refl (days_before_lem (leap_days y) m (leap_small y) h)
+pub days_to_lem : (y m : ℕ) → m < 13 → before year_days (y + bool_byte (ltb 2 m)) + get_or days_before_table m 0 ≡ before year_days y + before (month_days (leap_days y)) m + 365 * bool_byte (ltb 2 m)
+days_to_lem y m h = go (ltb 2 m) refl
   where
-    go : (b : Bool) → leb m 2 ≡ b → cond b ((367 * m - 362) / 12) ((367 * m - 362) / 12 + leap_days y - 2) ≡ before (month_days (leap_days y)) m
-        → before year_days (y + cond b 0 1) + (367 * m - 362) / 12 ≡ before year_days y + before (month_days (leap_days y)) m + 367 * cond b 0 1
-    go true t e = rw add-zero (omega (arith, e))
-    go false t e = unfold before year_days in rw add-one (omega (arith, e, leb-false m 2 t))
+    go : (b : Bool) → ltb 2 m ≡ b → before year_days (y + bool_byte b) + get_or days_before_table m 0 ≡ before year_days y + before (month_days (leap_days y)) m + 365 * bool_byte b
+    go true t =
+        let e = days_before (leap_days y) m (leap_small y) (ltb-true 2 m t) h in
+        unfold before year_days in rw add-one (omega (arith, e))
+    go false t = let e = days_before_march (leap_days y) m (leap_small y) (ltb-false 2 m t) in rw (add-zero y) (omega (arith, e))
 
 -- a year is its months
 pub year_months : (ℓ : ℕ) → before (month_days ℓ) 13 ≡ 365 + ℓ
@@ -76,8 +93,11 @@ unfolding month_days before
 year_months ℓ = omega arith
 
 -- the month of the day k of the year, as `month_on` computes it
-abbrev month_of : ℕ → ℕ → ℕ
-month_of ℓ k = cond (ltb k (59 + ℓ)) ((12 * k + 373) / 367) ((12 * (k + 2 - ℓ) + 373) / 367)
+abbrev pub spread : ℕ → ℕ → ℕ
+spread ℓ k = cond (ltb k (59 + ℓ)) k (k + 2 - ℓ)
+
+abbrev pub month_of : ℕ → ℕ → ℕ
+month_of ℓ k = (12 * spread ℓ k + 373) / 367
 
 month_is : (ℓ k : ℕ) → ℓ < 2 → k < 365 + ℓ → month_of ℓ k ≡ last (month_days ℓ) k 12
 unfolding month_days before last
@@ -88,7 +108,7 @@ at_most_31 : (ℓ m : ℕ) → ℓ < 2 → m < 13 → month_days ℓ m - 31 ≡ 
 unfolding month_days
 at_most_31 = agree_at (λ ℓ. 13) (λ ℓ m. month_days ℓ m - 31) (λ ℓ m. 0) refl
 
-abbrev Month : ℕ → ℕ → ℕ → Type 0
+abbrev pub Month : ℕ → ℕ → ℕ → Type 0
 Month ℓ k m = (m ≡ last (month_days ℓ) k 12) × (0 < m) × (m < 13) × (before (month_days ℓ) m ≤ k) × (k < before (month_days ℓ) m + 31)
 
 pub month_of_lem : (ℓ k : ℕ) → ℓ < 2 → k < 365 + ℓ → Month ℓ k (month_of ℓ k)

@@ -1,7 +1,9 @@
 -- Timestamps and dates match one to one.
+use Rattle.std.specs.Prelude.{Ok}
+use Rattle.std.proofs.lemmas.Bool.{false_from_ne_true}
 use mathlib.Core.Path.{◌≡◌, refl, sym, ap, ◌∙◌}
 use mathlib.Core.Bool.{Bool, true, false}
-use Prim.Native.Nat.{ℕ, ◌^◌, ◌<◌}
+use Prim.Native.Nat.{◌^◌, ◌<◌}
 use native.Mathlib.Omega.{arith}
 use borrow.Author.Tests.{eqb-true, ne_eqb}
 use Rattle.timestamp.specs.declared.Timestamp.{Timestamp}
@@ -11,9 +13,7 @@ use Rattle.calendar.specs.Dates.{exists, days_to, seconds_to, year_on, day_of_ye
 use Rattle.calendar.specs.Calendar.{start1900, start2036, window_start, window_end, seconds_at, date_of, in_window, era_seconds, timestamp_at, timestamp_of}
 use Rattle.calendar.specs.OneToOne.{HasDate, HasTimestamp, era_start, OneToOne}
 use Rattle.calendar.specs.declared.Date.{Date}
-use Rattle.calendar.specs.declared.DateAnswer.{DateAnswer}
-use Rattle.calendar.specs.declared.TimestampAnswer.{TimestampAnswer}
-use Rattle.calendar.proofs.Dates.{not_true_is_false, exists_has, exists_yes, window_has, window_yes, bounds}
+use Rattle.calendar.proofs.Dates.{exists_has, exists_yes, window_has, window_yes, bounds}
 use Rattle.calendar.proofs.RoundTrip.{date_exists, date_seconds, date_back}
 use Rattle.calendar.proofs.Eras.{era_seconds_lem, seconds_at_lem, timestamp_fits, seconds_back, fraction_back}
 
@@ -29,7 +29,7 @@ unfolding date_of
 dated_has t d q = go (is_zero t) refl
   where
     go : (z : Bool) → is_zero t ≡ z → (is_zero t ≡ false) × (date_at (seconds_at t) (fraction_of t) ≡ d)
-    go true e = let r = simp e at q in let z : ◌≡◌ {A = ℕ} 0 1 = cc in absurd (omega arith)
+    go true e = let r = simp e at q in cc
     go false e = let r = simp e at q in (e, cc)
 
 timestamp_in : (d : Date) → exists d ≡ true → in_window (seconds_to d) ≡ true → is_zero (timestamp_at d) ≡ false → HasTimestamp d (timestamp_at d)
@@ -48,7 +48,7 @@ date_timestamp t h z =
     let w = ap in_window is ∙ window_yes s c.from c.to in
     let seconds : era_seconds (seconds_to (date_at s f)) ≡ seconds_of t = ap era_seconds is ∙ era_seconds_lem s c.from c.to ∙ c.residue in
     let counted : t ≡ timestamp_at (date_at s f) = ap timestamp (omega arith) in
-    timestamp_in (date_at s f) e w (ap is_zero (sym counted) ∙ z) ∙ ap TimestampAnswer.Timestamp (sym counted)
+    timestamp_in (date_at s f) e w (ap is_zero (sym counted) ∙ z) ∙ ap Ok (sym counted)
 
 -- ---- from a date to its timestamp
 
@@ -63,16 +63,13 @@ timestamped_has : (d : Date) (t : Timestamp) → HasTimestamp d t → Timestampe
 unfolding timestamp_of
 timestamped_has d t q = go (exists d) (in_window (seconds_to d)) (is_zero (timestamp_at d)) refl refl refl
   where
-    refused : (n : ℕ) → TimestampAnswer.Refused n ≡ TimestampAnswer.Timestamp t → Timestamped d t
-    refused n e = let z : ◌≡◌ {A = ℕ} 0 1 = cc in absurd (omega arith)
-
     go : (a b z : Bool) → exists d ≡ a → in_window (seconds_to d) ≡ b → is_zero (timestamp_at d) ≡ z → Timestamped d t
-    go false false z ea eb ez = refused _ (simp (ea, eb) at q)
-    go false true z ea eb ez = refused _ (simp (ea, eb) at q)
-    go true false z ea eb ez = refused _ (simp (ea, eb) at q)
-    go true true true ea eb ez = refused _ (simp (ea, eb, ez) at q)
+    go false false z ea eb ez = let r = simp (ea, eb) at q in cc
+    go false true z ea eb ez = let r = simp (ea, eb) at q in cc
+    go true false z ea eb ez = let r = simp (ea, eb) at q in cc
+    go true true true ea eb ez = let r = simp (ea, eb, ez) at q in cc
     go true true false ea eb ez =
-        let i : TimestampAnswer.Timestamp (timestamp_at d) ≡ TimestampAnswer.Timestamp t = simp (ea, eb, ez) at q in
+        let i = simp (ea, eb, ez) at q in
         let same : timestamp_at d ≡ t = cc in
         record { is_date = ea; is_inside = eb; not_zero = ap is_zero (sym same) ∙ ez; counted = same }
 
@@ -84,7 +81,7 @@ timestamp_date d t f q =
     let back = date_back d (exists_has d s.is_date) w.1 in
     let seconds = ap seconds_at (sym s.counted) ∙ seconds_back (seconds_to d) d.fraction w.0 w.1 f in
     let fraction = ap fraction_of (sym s.counted) ∙ fraction_back (seconds_to d) d.fraction w.0 w.1 f in
-    date_in t s.not_zero ∙ ap DateAnswer.Date (rw (seconds, fraction) back)
+    date_in t s.not_zero ∙ ap Ok (rw (seconds, fraction) back)
 
 date_2036 : date_at start2036 0 ≡ era_start
 unfolding start2036 seconds_to days_to date_at year_on day_of_year month_on day_of_month before last year_days month_days leap_days
@@ -112,7 +109,7 @@ one_to_one = record {
   timestamped = λ d f e w other. let b = window_has (seconds_to d) w in (
     timestamp_at d,
     timestamp_fits (seconds_to d) d.fraction b.0 b.1 f,
-    timestamp_in d e w (not_true_is_false (is_zero (timestamp_at d)) λ z. other (zero_date d e w z)),
+    timestamp_in d e w (false_from_ne_true (is_zero (timestamp_at d)) λ z. other (zero_date d e w z)),
   );
   era_start_refused = unfold timestamp_of exists in_window window_start window_end start1900 start2036 era_seconds seconds_to days_to before year_days month_days leap_days in refl;
 }

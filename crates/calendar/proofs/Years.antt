@@ -1,24 +1,20 @@
 -- The days before a year in closed form, and the year of a day.
 use mathlib.Core.Path.{◌≡◌, refl, sym, ap, ◌∙◌}
-use mathlib.Core.Bool.{Bool, true, false, cond, not, ◌&&◌, ◌||◌}
+use mathlib.Core.Bool.{cond}
 use Prim.Native.Nat.{ℕ, zero, suc, ◌+◌, ◌*◌, ◌/◌, ◌%◌, ◌≤◌, ◌<◌}
 use native.Mathlib.Nat.{div-add-mod', mod-lt, zero-lt-suc}
 use native.Mathlib.Numerals.{add-one}
 use native.Mathlib.Omega.{arith}
-use borrow.Author.Tests.{eqb-true, eqb-false}
 use lib.Arith.{digits_div}
+use Rattle.std.proofs.lemmas.Bool.Decides.{nat_tests}
 use lib.Dec.{eqb, eqb-suc-zero}
-use Rattle.calendar.specs.Gregorian.{divides, leap_year, leap_days, year_days, before}
+use Rattle.calendar.specs.Gregorian.{divides, leap_days, year_days, before}
 use Rattle.calendar.specs.Dates.{year_on}
 use Rattle.calendar.proofs.Before.{last_is}
 
 pub leap_small : (y : ℕ) → leap_days y < 2
 unfolding leap_days
-leap_small y = go (leap_year y)
-  where
-    go : (b : Bool) → cond b 1 0 < 2
-    go true = omega arith
-    go false = omega arith
+leap_small y = grind (arith, nat_tests)
 
 -- 1 where k divides y, and else 0
 divisible : ℕ → ℕ → ℕ
@@ -27,17 +23,7 @@ divisible k y = cond (divides k y) 1 0
 -- the leap days of y, by inclusion and exclusion
 leap_days_lem : (y : ℕ) → leap_days y + divisible 100 y ≡ divisible 4 y + divisible 400 y
 unfolding leap_days divisible
-leap_days_lem y = go (divides 400 y) (divides 100 y) (divides 4 y) refl refl refl
-  where
-    go : (a b c : Bool) → divides 400 y ≡ a → divides 100 y ≡ b → divides 4 y ≡ c
-        → cond (c && (not b || a)) 1 0 + cond b 1 0 ≡ cond c 1 0 + cond a 1 0
-    go true b false ea eb ec = omega (arith, eqb-true (y % 400) 0 ea, eqb-false (y % 4) 0 ec)
-    go true false true ea eb ec = omega (arith, eqb-true (y % 400) 0 ea, eqb-false (y % 100) 0 eb)
-    go true true true ea eb ec = refl
-    go false true false ea eb ec = omega (arith, eqb-true (y % 100) 0 eb, eqb-false (y % 4) 0 ec)
-    go false true true ea eb ec = refl
-    go false false true ea eb ec = refl
-    go false false false ea eb ec = refl
+leap_days_lem y = grind (arith, nat_tests)
 
 -- y / k rounded up, with k one more than j, is one more in the next year where k divides y, and else the same
 up : ℕ → ℕ → ℕ

@@ -1,13 +1,12 @@
 -- Dates of timestamps, and timestamps of dates (docs/RULES.md, "The calendar").
-use Rattle.std.specs.Prelude.{ℕ, ◌+◌, ◌-◌, ◌^◌, Bool, cond, not, ◌&&◌, leb, ltb}
-use Rattle.refusals.specs.Numbers.{timestamp_zero, no_such_date, outside_window}
-use Rattle.ordered_tests.specs.Tests.{Tests, ◌if◌else◌, otherwise, answer}
+use Rattle.std.specs.Prelude.{ℕ, ◌+◌, ◌-◌, ◌^◌, Bool, cond, not, ◌&&◌, leb, ltb, Result}
+use Rattle.refusals.specs.declared.Refusal.{Refusal}
+use Rattle.refusals.specs.declared.Refusal.TheVariants.{TimestampZero, NoSuchDate, OutsideWindow}
+use Rattle.ordered_tests.specs.Tests.{Tests, ◌if◌else◌, otherwise, given}
 use Rattle.timestamp.specs.declared.Timestamp.{Timestamp}
 use Rattle.timestamp.specs.Timestamp.{from_seconds, seconds_of, fraction_of, is_zero}
 use Rattle.calendar.specs.Dates.{date, exists, seconds_to, date_at}
 use Rattle.calendar.specs.declared.Date.{Date}
-use Rattle.calendar.specs.declared.DateAnswer.{DateAnswer}
-use Rattle.calendar.specs.declared.TimestampAnswer.{TimestampAnswer}
 
 -- the starts of the two eras, and the first and the last second of the window, in seconds from the start of the year 0
 unfoldable pub start1900 : ℕ
@@ -27,13 +26,13 @@ unfoldable pub seconds_at : Timestamp → ℕ
 seconds_at t = cond (leb (2 ^ 31) (seconds_of t)) start1900 start2036 + seconds_of t
 
 -- The date of a timestamp.
-abbrev pub date_tests : Timestamp → Tests DateAnswer
+abbrev pub date_tests : Timestamp → Tests Date
 date_tests t =
-    timestamp_zero if is_zero t else
-    otherwise (DateAnswer.Date (date_at (seconds_at t) (fraction_of t)))
+    TimestampZero if is_zero t else
+    otherwise (date_at (seconds_at t) (fraction_of t))
 
-unfoldable pub date_of : Timestamp → DateAnswer
-date_of t = answer DateAnswer.Refused (date_tests t)
+unfoldable pub date_of : Timestamp → Result Date Refusal
+date_of t = given (date_tests t)
 
 -- the second s is in the window, fractions included
 unfoldable pub in_window : ℕ → Bool
@@ -43,17 +42,24 @@ in_window s = leb window_start s && leb s window_end
 unfoldable pub era_seconds : ℕ → ℕ
 era_seconds s = s - cond (ltb s start2036) start1900 start2036
 
+-- The timestamp that counts to the second s after the start of the year 0, with this fraction.
+abbrev pub second_tests : (s fraction : ℕ) → Tests Timestamp
+second_tests s fraction =
+    OutsideWindow if not (in_window s) else
+    TimestampZero if is_zero (from_seconds (era_seconds s) fraction) else
+    otherwise (from_seconds (era_seconds s) fraction)
+
 -- the timestamp that counts to a date
 abbrev pub timestamp_at : Date → Timestamp
 timestamp_at d = from_seconds (era_seconds (seconds_to d)) d.fraction
 
 -- The timestamp of a date.
-abbrev pub timestamp_tests : Date → Tests TimestampAnswer
+abbrev pub timestamp_tests : Date → Tests Timestamp
 timestamp_tests d =
-    no_such_date if not (exists d) else
-    outside_window if not (in_window (seconds_to d)) else
-    timestamp_zero if is_zero (timestamp_at d) else
-    otherwise (TimestampAnswer.Timestamp (timestamp_at d))
+    NoSuchDate if not (exists d) else
+    OutsideWindow if not (in_window (seconds_to d)) else
+    TimestampZero if is_zero (timestamp_at d) else
+    otherwise (timestamp_at d)
 
-unfoldable pub timestamp_of : Date → TimestampAnswer
-timestamp_of d = answer TimestampAnswer.Refused (timestamp_tests d)
+unfoldable pub timestamp_of : Date → Result Timestamp Refusal
+timestamp_of d = given (timestamp_tests d)

@@ -1,34 +1,42 @@
-// Years and months of the Gregorian calendar, each worked out directly. `leap` is the number of leap days of a year, 0 or 1.
-ghost use Rattle.std.specs.Prelude.{◌≡◌, cond, leb, ◌+◌, ◌*◌, ◌^◌, ◌≤◌, ◌<◌};
+// Years and months of the Gregorian calendar, each worked out directly. `extra` is the number of leap days of a year, 0 or 1.
+ghost use Rattle.std.specs.Prelude.{◌≡◌, ◌+◌, ◌^◌, ◌*◌, ◌≤◌, ◌<◌};
 ghost use Rattle.calendar.specs.Gregorian.{leap_days, year_days, month_days, before, last};
 ghost use Rattle.calendar.specs.Dates.{year_on};
 
+// The days of January to December in a year without a leap day, each at its month's number.
+const MONTH_DAYS: [u64; 13] = [0, 31, 28, 31, 30, 31, 30, 31, 31, 30, 31, 30, 31];
+
+// The days before each.
+const DAYS_BEFORE_MONTH: [u64; 13] = [0, 0, 31, 59, 90, 120, 151, 181, 212, 243, 273, 304, 334];
+
+#[tactic(auto, unfolding(crate::specs::Gregorian::leap_days))]
 pub(crate) fn leap_days(year: u64) -> u64
-    ensures { (result ≡ leap_days year) × (result < 2) }
+    ensures is { result ≡ leap_days year }
+    ensures small { result < 2 }
 {
-    if year % 4 != 0 {
-        return 0;
-    }
-    if year % 100 != 0 {
-        return 1;
-    }
-    if year % 400 == 0 { 1 } else { 0 }
+    u64::from(year % 4 == 0 && (year % 100 != 0 || year % 400 == 0))
 }
 
 // The days from the start of the year 0 to the start of a year: of the years before it those that 4 divides have a leap day,
-// without those that 100 divides, with those that 400 divides.
+// without those that 100 divides, with those that 400 divides. `div_ceil` is slower.
+#[tactic(auto, using(crate::proofs::Years::years))]
 pub(crate) fn days_before_year(year: u64) -> u64
     requires { year < 2 ^ 33 }
-    ensures { (result ≡ before year_days year) × (result ≤ 366 * year + 2) }
+    ensures is { result ≡ before year_days year }
+    ensures small { result ≤ 366 * year + 2 }
 {
     365 * year + (year + 3) / 4 + (year + 399) / 400 - (year + 99) / 100
 }
 
 // The year of the day n after the start of the year 0. 1461 days are four years with a leap day, a little over four mean years,
-// so between these days the estimate is the year or the one before it.
+// so between these days the estimate is the year or the one before it. A search of the years is slower.
 pub(crate) fn year_on(n: u64) -> u64
-    requires { (146000 ≤ n) × (n < 768600) }
-    ensures { (result ≡ year_on n) × (result ≤ 2104) × (before year_days result ≤ n) × (n < before year_days result + (365 + leap_days result)) }
+    requires from { 146000 ≤ n }
+    requires to { n < 768600 }
+    ensures is { result ≡ year_on n }
+    ensures small { result ≤ 2104 }
+    ensures begun { before year_days result ≤ n }
+    ensures current { n < before year_days result + (365 + leap_days result) }
 {
     let year = 4 * n / 1461;
     if days_before_year(year + 1) <= n {
@@ -38,56 +46,52 @@ pub(crate) fn year_on(n: u64) -> u64
     }
 }
 
-// The length of a month. Up to July and from August on 31 and 30 take turns, February aside.
+// The length of a month; one that does not exist has no day.
+#[tactic(auto, using(crate::proofs::Months::days_in_february, crate::proofs::Months::days_in))]
 pub(crate) fn days_in_month(year: u64, month: u64) -> u64
     ensures { result ≡ month_days (leap_days year) month }
 {
-    if 12 < month {
-        return 0;
-    }
-    if month == 0 {
-        return 0;
-    }
     if month == 2 {
         return 28 + leap_days(year);
     }
-    30 + (month + month / 8) % 2
+    MONTH_DAYS.get(month as usize).copied().unwrap_or(0)
 }
 
-// The days of the year before a month: 367/12 a month, as if February had 30 days.
+// The days of the year before a month.
+#[tactic(auto, using(crate::proofs::Months::days_before_march, crate::proofs::Months::days_before))]
 pub(crate) fn days_before_month(extra: u64, month: u64) -> u64
-    requires { (extra < 2) × (0 < month) × (month < 13) }
-    ensures { (result ≡ before (month_days extra) month) × (result < 366) }
+    requires extra { extra < 2 }
+    requires month { month < 13 }
+    ensures is { result ≡ before (month_days extra) month }
+    ensures small { result < 366 }
 {
-    let n = (367 * month - 362) / 12;
-    if month <= 2 { n } else { n + extra - 2 }
+    let n = DAYS_BEFORE_MONTH[month as usize];
+    if month <= 2 { n } else { n + extra }
 }
 
-// Whether February is over: 0 or 1.
-fn after_february(month: u64) -> u64
-    ensures { (result ≡ cond (leb month 2) 0 1) × (result < 2) }
-{
-    if month <= 2 { 0 } else { 1 }
-}
-
-// The days from the start of the year 0 to a month. From March on they are counted to the next year's start, and 367 days less: so the leap day is one of
+// The days from the start of the year 0 to a month. From March on they are counted to the next year's start, and 365 days less: so the leap day is one of
 // those before a year, and the year's own need not be known.
 pub(crate) fn days_to_month(year: u64, month: u64) -> u64
-    requires { (year < 2 ^ 32) × (0 < month) × (month < 13) }
-    ensures { (result ≡ before year_days year + before (month_days (leap_days year)) month) × (result ≤ 366 * year + 800) }
+    requires year { year < 2 ^ 32 }
+    requires month { month < 13 }
+    ensures is { result ≡ before year_days year + before (month_days (leap_days year)) month }
+    ensures small { result ≤ 366 * year + 800 }
 {
-    let after = after_february(month);
-    days_before_year(year + after) + (367 * month - 362) / 12 - 367 * after
+    let after = u64::from(2 < month);
+    days_before_year(year + after) + DAYS_BEFORE_MONTH[month as usize] - 365 * after
 }
 
-// The month of the day k after the start of a year, by the same count.
+// The month of the day k after the start of a year: 367/12 days a month, as if February had 30 days.
+// A search of the table is slower.
 pub(crate) fn month_on(extra: u64, k: u64) -> u64
-    requires { (extra < 2) × (k < 365 + extra) }
-    ensures { (result ≡ last (month_days extra) k 12) × (0 < result) × (result < 13) × (before (month_days extra) result ≤ k) × (k < before (month_days extra) result + 31) }
+    requires extra { extra < 2 }
+    requires k { k < 365 + extra }
+    ensures is { result ≡ last (month_days extra) k 12 }
+    ensures first { 0 < result }
+    ensures last { result < 13 }
+    ensures begun { before (month_days extra) result ≤ k }
+    ensures current { k < before (month_days extra) result + 31 }
 {
-    if k < 59 + extra {
-        (12 * k + 373) / 367
-    } else {
-        (12 * (k + 2 - extra) + 373) / 367
-    }
+    let spread = if k < 59 + extra { k } else { k + 2 - extra };
+    (12 * spread + 373) / 367
 }

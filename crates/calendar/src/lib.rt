@@ -1,15 +1,16 @@
 // Dates of timestamps, and timestamps of dates (docs/RULES.md, "The calendar").
 #![tactic(auto)]
 
-ghost use Rattle.std.specs.Prelude.{◌≡◌, true, ◌+◌, ◌*◌, ◌^◌, ◌≤◌, ◌<◌};
-ghost use Rattle.refusals.specs.Numbers.{timestamp_zero};
-ghost use Rattle.ordered_tests.specs.Tests.{◌if◌else◌, otherwise, answer};
+ghost use Rattle.std.specs.Prelude.{◌≡◌, ◌+◌, ◌*◌, ◌^◌, ◌≤◌, ◌<◌};
+ghost use Rattle.refusals.specs.declared.Refusal.TheVariants.{TimestampZero};
+ghost use Rattle.ordered_tests.specs.Tests.{◌if◌else◌, otherwise, given};
 ghost use Rattle.timestamp.specs.Timestamp.{is_zero};
 ghost use Rattle.calendar.specs.Dates.{exists, seconds_to, date_at};
-ghost use Rattle.calendar.specs.Calendar.{start1900, start2036, seconds_at, in_window, era_seconds, date_of, timestamp_of};
+ghost use Rattle.calendar.specs.Calendar.{start1900, start2036, seconds_at, in_window, era_seconds, date_of, timestamp_of, second_tests};
 
 mod gregorian;
 
+use refusals::Refusal;
 use timestamp::Timestamp;
 
 #[derive(Clone, Copy)]
@@ -21,18 +22,6 @@ pub struct Date {
     pub minute: u8,
     pub second: u8,
     pub fraction: u32,
-}
-
-#[derive(Clone, Copy)]
-pub enum DateAnswer {
-    Refused(u8),
-    Date(Date),
-}
-
-#[derive(Clone, Copy)]
-pub enum TimestampAnswer {
-    Refused(u8),
-    Timestamp(Timestamp),
 }
 
 // The seconds from the start of the year 0 to 1900-01-01 00:00:00, where the first era starts.
@@ -47,12 +36,11 @@ const WINDOW_START: u64 = 62_105_714_048;
 // To 2104-02-26 09:42:23, its last.
 const WINDOW_END: u64 = 66_400_681_343;
 
-// The top bit of a timestamp's seconds.
-const TOP_BIT: u32 = 0x8000_0000;
-
 // The date s seconds after the start of the year 0; `year_on` gives the bounds.
+#[tactic(auto, unfolding(crate::specs::Dates::date_at, crate::specs::Dates::day_of_year, crate::specs::Dates::month_on, crate::specs::Dates::day_of_month))]
 fn date_at(s: u64, fraction: u32) -> Date
-    requires { (146000 * 86400 ≤ s) × (s < 768600 * 86400) }
+    requires from { 146000 * 86400 ≤ s }
+    requires to { s < 768600 * 86400 }
     ensures { result ≡ date_at s fraction }
 {
     let days = s / 86400;
@@ -72,53 +60,50 @@ fn date_at(s: u64, fraction: u32) -> Date
     }
 }
 
-// The seconds from the start of the year 0 to a timestamp.
-fn seconds_at(t: Timestamp) -> u64
-    ensures { (result ≡ seconds_at t) × (146000 * 86400 ≤ result) × (result < 768600 * 86400) }
+// The seconds from the start of the year 0 to a timestamp. The eras are 2^32 s apart:
+// read as a signed number, the timestamp's seconds count from the start of the second era.
+#[tactic(auto, using(crate::proofs::Dates::bounds), unfolding(crate::specs::Calendar::seconds_at))]
+pub fn seconds_at(t: Timestamp) -> u64
+    ensures is { result ≡ seconds_at t }
+    ensures from { 146000 * 86400 ≤ result }
+    ensures to { result < 768600 * 86400 }
 {
-    let seconds = t.seconds();
-    if TOP_BIT <= seconds {
-        START_1900 + seconds as u64
-    } else {
-        START_2036 + seconds as u64
+    START_2036.wrapping_add_signed(i64::from(t.seconds().cast_signed()))
+}
+
+// A timestamp that is not zero. Refusals: 24.
+pub fn nonzero(t: Timestamp) -> Result<Timestamp, Refusal>
+    ensures { result ≡ given (TimestampZero if is_zero t else otherwise t) }
+{
+    if t.is_zero() {
+        return Err(Refusal::TimestampZero);
     }
+    Ok(t)
 }
 
 // The date of a timestamp. Refusals: 24.
-pub fn date_of_timestamp(t: Timestamp) -> DateAnswer
+#[tactic(auto, unfolding(crate::specs::Calendar::date_of))]
+pub fn date_of_timestamp(t: Timestamp) -> Result<Date, Refusal>
     ensures { result ≡ date_of t }
 {
-    if t.is_zero() {
-        return DateAnswer::Refused(refusals::TIMESTAMP_ZERO);
-    }
-    DateAnswer::Date(date_at(seconds_at(t), t.fraction()))
+    let t = nonzero(t)?;
+    Ok(date_at(seconds_at(t), t.fraction()))
 }
 
 // Whether there is such a date and such a time of day.
+#[tactic(auto, unfolding(crate::specs::Dates::exists))]
 fn is_date(d: Date) -> bool
     ensures { result ≡ exists d }
 {
-    if d.day < 1 {
-        return false;
-    }
-    if gregorian::days_in_month(d.year as u64, d.month as u64) < d.day as u64 {
-        return false;
-    }
-    if 24 <= d.hour {
-        return false;
-    }
-    if 60 <= d.minute {
-        return false;
-    }
-    if 60 <= d.second {
-        return false;
-    }
-    true
+    let days = gregorian::days_in_month(d.year as u64, d.month as u64);
+    (1..=days).contains(&(d.day as u64)) && d.hour < 24 && d.minute < 60 && d.second < 60
 }
 
 // The seconds from the start of the year 0 to a date.
+#[tactic(auto, unfolding(crate::specs::Dates::seconds_to, crate::specs::Dates::days_to))]
 fn seconds_to(d: Date) -> u64
-    requires { (0 < d.month) × (d.month < 13) × (0 < d.day) }
+    requires month { d.month < 13 }
+    requires day { 0 < d.day }
     ensures { result ≡ seconds_to d }
 {
     let days = gregorian::days_to_month(d.year as u64, d.month as u64) + (d.day as u64 - 1);
@@ -126,44 +111,41 @@ fn seconds_to(d: Date) -> u64
 }
 
 // Whether the window has the second s after the start of the year 0.
+#[tactic(auto, using(crate::proofs::Dates::bounds), unfolding(crate::specs::Calendar::in_window))]
 fn in_window(s: u64) -> bool
     ensures { result ≡ in_window s }
 {
-    if s < WINDOW_START {
-        return false;
-    }
-    s <= WINDOW_END
+    (WINDOW_START..=WINDOW_END).contains(&s)
 }
 
 // The seconds of a timestamp: from the start of its era to the second s after the start of the year 0. An era has 2^32 seconds.
+#[tactic(auto, using(crate::proofs::Eras::in_era, crate::proofs::Dates::bounds))]
 fn era_seconds(s: u64) -> u32
-    requires { (start1900 ≤ s) × (s < start2036 + 2 ^ 32) }
+    requires from { start1900 ≤ s }
+    requires to { s < start2036 + 2 ^ 32 }
     ensures { result ≡ era_seconds s }
 {
-    ((s - START_1900) % 0x1_0000_0000) as u32
+    ((s - START_1900) % Timestamp::SECOND) as u32
 }
 
-// A timestamp as an answer. Refusals: 24.
-fn nonzero(t: Timestamp) -> TimestampAnswer
-    ensures { result ≡ answer TimestampAnswer.Refused (timestamp_zero if is_zero t else otherwise (TimestampAnswer.Timestamp t)) }
+// The timestamp that counts to the second s after the start of the year 0. Refusals, in order: 26, 24.
+#[tactic(auto, using(crate::proofs::Dates::window_has, crate::proofs::Dates::bounds))]
+pub fn timestamp_at_second(s: u64, fraction: u32) -> Result<Timestamp, Refusal>
+    ensures { result ≡ given (second_tests s fraction) }
 {
-    if t.is_zero() {
-        TimestampAnswer::Refused(refusals::TIMESTAMP_ZERO)
-    } else {
-        TimestampAnswer::Timestamp(t)
+    if !in_window(s) {
+        return Err(Refusal::OutsideWindow);
     }
+    nonzero(Timestamp::from_seconds(era_seconds(s), fraction))
 }
 
 // The timestamp of a date. Refusals, in order: 25, 26, 24.
-pub fn timestamp_of_date(d: Date) -> TimestampAnswer
+#[tactic(auto, using(crate::proofs::Dates::exists_ranges), unfolding(crate::specs::Calendar::timestamp_of))]
+pub fn timestamp_of_date(d: Date) -> Result<Timestamp, Refusal>
     ensures { result ≡ timestamp_of d }
 {
     if !is_date(d) {
-        return TimestampAnswer::Refused(refusals::NO_SUCH_DATE);
+        return Err(Refusal::NoSuchDate);
     }
-    let s = seconds_to(d);
-    if !in_window(s) {
-        return TimestampAnswer::Refused(refusals::OUTSIDE_WINDOW);
-    }
-    nonzero(Timestamp::from_seconds(era_seconds(s), d.fraction))
+    timestamp_at_second(seconds_to(d), d.fraction)
 }

@@ -2,20 +2,21 @@
 ghost use Rattle.std.specs.Prelude.{◌≡◌};
 ghost use Rattle.client.specs.Arrival.{arrival_answer, after_kiss, after, arrived};
 
-use crate::{Arrived, Client, Phase};
+use crate::{Called, Client, Phase};
+use refusals::Refusal;
 use reply_checks::ArrivalAnswer;
 use timestamp::Timestamp;
 
 impl Client {
-    fn check_packet(self, packet: &[u8], t4: Timestamp) -> ArrivalAnswer
+    #[tactic(auto, unfolding(crate::specs::Arrival::arrival_answer, reply_checks::specs::Checks::checked_packet))]
+    fn check_packet(self, packet: &[u8], t4: Timestamp) -> Result<ArrivalAnswer, Refusal>
         ensures { result ≡ arrival_answer self packet.now t4 }
     {
         if self.illegal() {
-            return ArrivalAnswer::Refused(refusals::RECORD_NOT_LEGAL);
+            return Err(Refusal::RecordNotLegal);
         }
-        let phase = self.phase;
         reply_checks::check_packet(
-            phase.is_waiting(),
+            self.phase.is_waiting(),
             self.t1,
             self.token,
             self.version,
@@ -34,27 +35,24 @@ impl Client {
         self.back_off()
     }
 
-    fn after(self, answer: ArrivalAnswer, alternate: bool) -> Client
+    fn after(self, answer: Result<ArrivalAnswer, Refusal>, alternate: bool) -> Client
         ensures { result ≡ after self alternate answer }
     {
         match answer {
-            ArrivalAnswer::Refused(n) => self,
-            ArrivalAnswer::Accepted {
-                offset,
-                half,
-                delay,
-            } => self.without_request(Phase::Idle, 6),
-            ArrivalAnswer::Kiss { code, row } => self.after_kiss(alternate),
+            Err(_) => self,
+            Ok(ArrivalAnswer::Accepted(_)) => self.without_request(Phase::Idle, 6),
+            Ok(ArrivalAnswer::Kiss { .. }) => self.after_kiss(alternate),
         }
     }
 
     // Arrival: a packet has come in at the clock reading T4 (RFC 4330, section 5, the client's checks of a server reply). The caller tells whether an
     // alternate server exists.
-    pub fn arrival(self, packet: &[u8], t4: Timestamp, alternate: bool) -> Arrived
+    #[tactic(auto, unfolding(crate::specs::Arrival::arrived))]
+    pub fn arrival(self, packet: &[u8], t4: Timestamp, alternate: bool) -> Called<ArrivalAnswer>
         ensures { result ≡ arrived self packet.now t4 alternate }
     {
         let answer = self.check_packet(packet, t4);
         let client = self.after(answer, alternate);
-        Arrived { answer, client }
+        Called { answer, client }
     }
 }

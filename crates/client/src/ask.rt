@@ -1,55 +1,57 @@
 // Ask: what the client sends.
 ghost use Rattle.std.specs.Prelude.{◌≡◌, length};
-ghost use Rattle.ordered_tests.specs.Tests.{number};
+ghost use Rattle.ordered_tests.specs.Tests.{tested};
 ghost use Rattle.client.specs.Ask.{ask_tests, after_ask, after_ask_buffer};
 
-use crate::{CallAnswer, Called, Client, Phase};
+use crate::{Called, Client, Phase};
 use ordered_tests::between;
 use poll::within_interval;
+use refusals::Refusal;
 use timestamp::Timestamp;
 use token::Token;
 
 impl Client {
-    fn first_ask_refusal(
+    #[tactic(auto, unfolding(crate::specs::Ask::ask_tests))]
+    fn check_ask(
         self,
         room: usize,
         version: u8,
         clock: Timestamp,
         token: Token,
         uptime: u64,
-    ) -> u8
-        ensures { result ≡ number (ask_tests self room version clock token uptime) }
+    ) -> Result<(), Refusal>
+        ensures { result ≡ tested (ask_tests self room version clock token uptime) }
     {
-        let phase = self.phase;
         if self.illegal() {
-            return refusals::RECORD_NOT_LEGAL;
+            return Err(Refusal::RecordNotLegal);
         }
         if room < packet::LENGTH {
-            return refusals::BUFFER_TOO_SHORT;
+            return Err(Refusal::BufferTooShort);
         }
         if !between(1, 4, version) {
-            return refusals::VERSION_UNSUPPORTED;
+            return Err(Refusal::VersionUnsupported);
         }
         if clock.is_zero() {
-            return refusals::OWN_CLOCK_ZERO;
+            return Err(Refusal::OwnClockZero);
         }
         if token.is_zero() {
-            return refusals::TOKEN_ZERO;
+            return Err(Refusal::TokenZero);
         }
-        if phase.is_stopped() {
-            return refusals::CLIENT_STOPPED;
+        if self.phase.is_stopped() {
+            return Err(Refusal::ClientStopped);
         }
-        if phase.is_waiting() {
-            return refusals::ALREADY_WAITING;
+        if self.phase.is_waiting() {
+            return Err(Refusal::AlreadyWaiting);
         }
         if self.asked && within_interval(self.uptime, self.exponent, uptime) {
-            return refusals::ASKED_TOO_SOON;
+            return Err(Refusal::AskedTooSoon);
         }
-        0
+        Ok(())
     }
 
     // Ask: the client request of RFC 4330, section 5, is written into the buffer for the caller to send. It carries the token, and not the clock reading, which
     // the client keeps as T1.
+    #[tactic(auto, using(ordered_tests::proofs::Tests::by_refusal, ordered_tests::proofs::Tests::by_passing, ordered_tests::proofs::Tests::kept_refused, ordered_tests::proofs::Tests::kept_passing, crate::proofs::Asked::sent), unfolding(crate::specs::Ask::after_ask, crate::specs::Ask::after_ask_buffer))]
     pub fn ask(
         self,
         buffer: &mut [u8],
@@ -57,21 +59,17 @@ impl Client {
         clock: Timestamp,
         token: Token,
         uptime: u64,
-    ) -> Called
+    ) -> Called<()>
         ensures answer { result ≡ after_ask self (length buffer.old) version clock token uptime }
         ensures buffer { buffer.new ≡ after_ask_buffer self buffer.old version clock token uptime }
     {
-        let n = self.first_ask_refusal(buffer.len(), version, clock, token, uptime);
-        if n != 0 {
-            return Called {
-                answer: CallAnswer::Refused(n),
-                client: self,
-            };
+        if let Err(refusal) = self.check_ask(buffer.len(), version, clock, token, uptime) {
+            return self.refused(refusal);
         }
         // Not refused: the buffer has room, and the version is not too large.
-        request::write(buffer, version, token);
+        request::write(buffer, version, token).unwrap();
         Called {
-            answer: CallAnswer::Done,
+            answer: Ok(()),
             client: Client {
                 phase: Phase::Waiting,
                 t1: clock,

@@ -1,42 +1,40 @@
 // Give up: no reply has come.
 ghost use Rattle.std.specs.Prelude.{◌≡◌};
-ghost use Rattle.ordered_tests.specs.Tests.{number};
+ghost use Rattle.ordered_tests.specs.Tests.{tested};
 ghost use Rattle.client.specs.GiveUp.{give_up_tests, gave_up};
 
-use crate::{CallAnswer, Called, Client};
+use crate::{Called, Client};
 use poll::too_soon;
+use refusals::Refusal;
 use timestamp::Timestamp;
 
 impl Client {
-    fn first_give_up_refusal(self, uptime: u64) -> u8
-        ensures { result ≡ number (give_up_tests self uptime) }
+    #[tactic(auto, unfolding(crate::specs::GiveUp::give_up_tests))]
+    fn check_give_up(self, uptime: u64) -> Result<(), Refusal>
+        ensures { result ≡ tested (give_up_tests self uptime) }
     {
-        let phase = self.phase;
         if self.illegal() {
-            return refusals::RECORD_NOT_LEGAL;
+            return Err(Refusal::RecordNotLegal);
         }
-        if !phase.is_waiting() {
-            return refusals::NOT_WAITING;
+        if !self.phase.is_waiting() {
+            return Err(Refusal::NotWaiting);
         }
         if too_soon(self.uptime, Timestamp::LIMIT_SECONDS, uptime) {
-            return refusals::GAVE_UP_TOO_SOON;
+            return Err(Refusal::GaveUpTooSoon);
         }
-        0
+        Ok(())
     }
 
     // Give up: the request has timed out, and the client backs off (RFC 4330, section 10).
-    pub fn give_up(self, uptime: u64) -> Called
+    #[tactic(auto, using(ordered_tests::proofs::Tests::by_refusal, ordered_tests::proofs::Tests::by_passing), unfolding(crate::specs::GiveUp::gave_up))]
+    pub fn give_up(self, uptime: u64) -> Called<()>
         ensures { result ≡ gave_up self uptime }
     {
-        let n = self.first_give_up_refusal(uptime);
-        if n != 0 {
-            return Called {
-                answer: CallAnswer::Refused(n),
-                client: self,
-            };
+        if let Err(refusal) = self.check_give_up(uptime) {
+            return self.refused(refusal);
         }
         Called {
-            answer: CallAnswer::Done,
+            answer: Ok(()),
             client: self.back_off(),
         }
     }

@@ -3,10 +3,11 @@ ghost use Rattle.std.specs.Prelude.{◌≡◌, not, ◌&&◌, ◌||◌, eqb};
 ghost use Rattle.ordered_tests.specs.Tests.{between};
 ghost use Rattle.timestamp.specs.Timestamp.{is_zero};
 ghost use Rattle.token.specs.Token.{is_zero_token};
-ghost use Rattle.client.specs.Record.{is_idle, is_waiting, is_stopped, fresh, illegal, without_request, back_off};
+ghost use Rattle.client.specs.Record.{is_idle, is_waiting, is_stopped, fresh, illegal, without_request, back_off, refused_call};
 
-use crate::{Client, Phase};
+use crate::{Called, Client, Phase};
 use ordered_tests::between;
+use refusals::Refusal;
 use timestamp::Timestamp;
 use token::Token;
 
@@ -14,31 +15,19 @@ impl Phase {
     pub(crate) fn is_idle(self) -> bool
         ensures { result ≡ is_idle self }
     {
-        match self {
-            Phase::Idle => true,
-            Phase::Waiting => false,
-            Phase::Stopped => false,
-        }
+        self == Phase::Idle
     }
 
     pub(crate) fn is_waiting(self) -> bool
         ensures { result ≡ is_waiting self }
     {
-        match self {
-            Phase::Idle => false,
-            Phase::Waiting => true,
-            Phase::Stopped => false,
-        }
+        self == Phase::Waiting
     }
 
     pub fn is_stopped(self) -> bool
         ensures { result ≡ is_stopped self }
     {
-        match self {
-            Phase::Idle => false,
-            Phase::Waiting => false,
-            Phase::Stopped => true,
-        }
+        self == Phase::Stopped
     }
 }
 
@@ -62,28 +51,25 @@ impl Client {
     fn illegal_request(self) -> bool
         ensures { result ≡ (is_waiting self.phase && (is_zero self.t1 || is_zero_token self.token || not (between 1 4 self.version))) || (not (is_waiting self.phase) && not (is_zero self.t1 && is_zero_token self.token && eqb self.version 0)) }
     {
-        let phase = self.phase;
-        let t1 = self.t1;
-        let token = self.token;
-        let waiting = phase.is_waiting();
-        (t1.is_zero() == waiting)
-            | (token.is_zero() == waiting)
+        let waiting = self.phase.is_waiting();
+        (self.t1.is_zero() == waiting)
+            | (self.token.is_zero() == waiting)
             | ((self.version == 0) == waiting)
             | (4 < self.version)
     }
 
     // A record that passes the first test and never asked is fresh if its phase, uptime and exponent are.
+    #[tactic(auto, unfolding(crate::specs::Record::illegal))]
     pub fn illegal(self) -> bool
         ensures { result ≡ illegal self }
     {
-        let phase = self.phase;
         if !between(6, 14, self.exponent) | self.illegal_request() {
             return true;
         }
         if self.asked {
             return false;
         }
-        !(phase.is_idle() & (self.uptime == 0) & (self.exponent == 6))
+        !(self.phase.is_idle() & (self.uptime == 0) & (self.exponent == 6))
     }
 
     // The record without a request.
@@ -98,6 +84,16 @@ impl Client {
             asked: self.asked,
             uptime: self.uptime,
             exponent,
+        }
+    }
+
+    // After a refusal the record stays.
+    pub(crate) fn refused<T>(self, refusal: Refusal) -> Called<T>
+        ensures { result ≡ refused_call self refusal }
+    {
+        Called {
+            answer: Err(refusal),
+            client: self,
         }
     }
 

@@ -1,32 +1,32 @@
 -- A call for an association meets its form.
+use Rattle.reply_checks.specs.declared.ArrivalAnswer.{ArrivalAnswer}
+use Rattle.ordered_tests.specs.Tests.{given}
 use Prim.Native.Nat.{ℕ}
-use mathlib.Core.Path.{◌≡◌, refl, sym, ap, subst, ◌∙◌}
+use mathlib.Core.Path.{◌≡◌, refl, ap, subst, ◌∙◌}
 use mathlib.Core.Bool.{Bool, true, false}
 use mathlib.Core.List.{List, [], ◌∷◌}
 use native.Mathlib.Omega.{arith}
-use lib.Dec.{T}
 use lib.ListN.{length, set}
 use lib.Seq.{set-get_or}
-use Rattle.refusals.specs.Numbers.{listed}
-use Rattle.ordered_tests.specs.Tests.{Tests, otherwise, Given, refused, answered}
+use Rattle.std.specs.Prelude.{Result, Ok, Err}
+use Rattle.refusals.specs.declared.Refusal.{Refusal}
+use Rattle.refusals.specs.declared.Refusal.TheVariants.{NotInList, RecordNotLegal}
+use Rattle.ordered_tests.specs.Tests.{Tests, otherwise}
 use Rattle.ordered_tests.specs.Tests as tests
 use Rattle.client.specs.declared.Client.{Client}
 use Rattle.client.specs.Record.{fresh}
 use Rattle.client.specs.Calls as calls
 use Rattle.association_rules.specs.InUse as rules
-use Rattle.association_rules.specs.Associations.{any_illegal, list_tests, association, alternate, asked_for, list_after_ask, buffer_after_ask, gave_up_for, list_after_give_up, arrived_at, arrived_for, list_after_arrival}
+use Rattle.association_rules.specs.Associations.{any_illegal, list_tests, alternate, asked_for, list_after_ask, buffer_after_ask, gave_up_for, list_after_give_up, arrived_at, arrived_for, list_after_arrival}
 use Rattle.association_rules.specs.InUse.{outside, exists}
-use Rattle.client.specs.declared.CallAnswer.{CallAnswer}
-use Rattle.reply_checks.specs.declared.ArrivalAnswer.{ArrivalAnswer}
 use Rattle.client.specs.Ask.{after_ask}
 use Rattle.client.specs.GiveUp.{gave_up}
-use Rattle.demands.specs.Form.{Form}
 use Rattle.demands.specs.Wrapper.{Wrapper, wrapped, through}
 use Rattle.demands.specs.Client as clients
 use Rattle.demands.specs.Client.{call_rules, client}
-use Rattle.demands.specs.Associations.{ListCall, ask, arrival, give_up, ListInput, ListOutcome, InList, AllLegal, use_after, at_record, placed, lent, associations, ours}
+use Rattle.demands.specs.Associations.{ListCall, ask, arrival, give_up, ListInput, ListOutcome, InList, AllLegal, use_after, at_record, placed, associations, ours}
 use Rattle.ordered_tests.proofs.Reflection.{WhereFalse, negated, both, is_false, is_below, within}
-use Rattle.demands.proofs.Form.{Meets, Each, Accepted, numbered, by, acceptance_shown, kiss_shown, Wraps, wrapped_meets, Leads, ◌before◌, inner, led}
+use Rattle.demands.proofs.Form.{Meets, Each, Accepted, by, acceptance_shown, kiss_shown, Wraps, wrapped_meets, Leads, ◌before◌, inner, led}
 use Rattle.demands.proofs.Legal.{legal}
 use Rattle.demands.proofs.Client.{client_meets}
 
@@ -67,7 +67,7 @@ leads i = in_list i.list i.at i.in_use before all_legal i.list before inner
 
 module _ (i : ListInput) where
   -- the tests before the client's give 35, 29, or the client's call at the record
-  decided : (P : Given (Client × calls.Call) → Type 0) → P (refused 35) → P (refused 29) → P (answered (at_record i)) → P (tests.given (table i))
+  decided : (P : Result (Client × calls.Call) Refusal → Type 0) → P (Err NotInList) → P (Err RecordNotLegal) → P (Ok (at_record i)) → P (tests.given (table i))
   decided P out illegal in-it = go (outside (length i.list) i.at i.in_use) (any_illegal i.list) refl refl
     where
       go : (a b : Bool) → outside (length i.list) i.at i.in_use ≡ a → any_illegal i.list ≡ b → P (tests.given (table i))
@@ -75,14 +75,8 @@ module _ (i : ListInput) where
       go false true e f = rw (e, f) illegal
       go false false e f = rw (e, f) in-it
 
-  numbers_listed : (n : ℕ) → tests.given (table i) ≡ refused n → T (listed n)
-  numbers_listed n = decided (λ g. g ≡ refused n → T (listed n))
-      (λ e. let s : ◌≡◌ {A = ℕ} 35 n = cc in subst (λ x. T (listed x)) s tt)
-      (λ e. let s : ◌≡◌ {A = ℕ} 29 n = cc in subst (λ x. T (listed x)) s tt)
-      (λ e. let z : ◌≡◌ {A = ℕ} 0 1 = cc in absurd (omega arith))
-
-  refused_so : (x : Client × calls.Call) (n : ℕ) → tests.given (table i) ≡ answered x → placed i (client.refusing x n) ≡ associations.refusing i n
-  refused_so x n = decided (λ g. g ≡ answered x → placed i (client.refusing x n) ≡ associations.refusing i n)
+  refused_so : (x : Client × calls.Call) (n : ℕ) → tests.given (table i) ≡ Ok x → placed i (client.refusing x n) ≡ associations.refusing i n
+  refused_so x n = decided (λ g. g ≡ Ok x → placed i (client.refusing x n) ≡ associations.refusing i n)
       (λ e. let z : ◌≡◌ {A = ℕ} 0 1 = cc in absurd (omega arith))
       (λ e. let z : ◌≡◌ {A = ℕ} 0 1 = cc in absurd (omega arith))
       (λ e. let s : at_record i ≡ x = cc in subst (λ y. placed i (client.refusing y n) ≡ associations.refusing i n) s (same i.call refl))
@@ -93,14 +87,14 @@ module _ (i : ListInput) where
       same (give_up x) e = rw e (λ j. record { result = calls.refused n; list = set-get_or i.list i.at fresh j; in_use = i.in_use; octets = [] })
 
   -- use stays after an ask and a give-up, and follows the answer of an arrival
-  call_use : (a : CallAnswer) → i.in_use ≡ use_after (calls.said_call a) (alternate i.list i.at) i.at i.in_use
-  call_use (CallAnswer.Refused n) = refl
-  call_use CallAnswer.Done = refl
+  call_use : (a : Result (Unit {0}) Refusal) → i.in_use ≡ use_after (calls.said_call a) (alternate i.list i.at) i.at i.in_use
+  call_use (Err r) = refl
+  call_use (Ok u) = refl
 
-  arrival_use : (a : ArrivalAnswer) → rules.use_after a (alternate i.list i.at) i.at i.in_use ≡ use_after (calls.said_arrival a) (alternate i.list i.at) i.at i.in_use
-  arrival_use (ArrivalAnswer.Refused n) = refl
-  arrival_use (ArrivalAnswer.Accepted offset half delay) = refl
-  arrival_use (ArrivalAnswer.Kiss code row) = refl
+  arrival_use : (a : Result ArrivalAnswer Refusal) → rules.use_after a (alternate i.list i.at) i.at i.in_use ≡ use_after (calls.said_arrival a) (alternate i.list i.at) i.at i.in_use
+  arrival_use (Err r) = refl
+  arrival_use (Ok (ArrivalAnswer.Accepted m)) = refl
+  arrival_use (Ok (ArrivalAnswer.Kiss code row)) = refl
 
   -- the client's outcome in its place, with this number in use
   abbrev in_use : calls.Outcome → ℕ → ListOutcome
@@ -137,7 +131,6 @@ shows_accepted i c (calls.give_up x) = acceptance_shown
 
 wraps : Wraps client_meets listing
 wraps = record {
-  numbers = numbers_listed;
   refusing = refused_so;
   refusals = λ i n l. by 8 n;
   others = λ i (c, x) e. shows_accepted i c x;
@@ -148,7 +141,7 @@ around = wrapped_meets client_meets listing wraps
 
 pub associations_meets : Meets associations ours
 associations_meets = record {
-  proper = record { numbers = λ i. listed_at i i.call refl; refusals = λ i n l. by 8 n; others = λ i. accepted_at i i.call refl };
+  proper = record { refusals = λ i n l. by 8 n; others = λ i. accepted_at i i.call refl };
   answers = record {
     given = around.answers.given;
     by_rules = λ i. led client listing i (leads i) (around.answers.given i) (around.answers.by_rules i);
@@ -156,11 +149,6 @@ associations_meets = record {
   };
 }
   where
-    listed_at : (i : ListInput) (x : ListCall) → i.call ≡ x → T (numbered listed (associations.rules i))
-    listed_at i (ask x) e = rw e tt
-    listed_at i (arrival x) e = rw e tt
-    listed_at i (give_up x) e = rw e tt
-
     accepted_at : (i : ListInput) (x : ListCall) → i.call ≡ x → Each (Accepted associations) (associations.rules i)
     accepted_at i (ask x) e = rw e acceptance_shown
     accepted_at i (arrival x) e = rw e (kiss_shown, acceptance_shown)

@@ -1,11 +1,13 @@
 -- Client and ledger together.
+use Rattle.refusals.specs.Given.{refused}
 use Prim.Native.Nat.{ℕ, ◌^◌, ◌<◌}
 use mathlib.Core.Path.{◌≡◌, sym, ap, subst, ◌∙◌}
 use mathlib.Core.Logic.{◌⊎◌, inl, inr}
 use native.Mathlib.Omega.{arith}
 use lib.IntN.{ℤ, nat_abs, ◌+ℤ◌}
-use Rattle.refusals.specs.Numbers.{entry_too_large, debt_too_large}
-use Rattle.ordered_tests.specs.Tests.{refused}
+use Rattle.refusals.specs.Numbers.{number}
+use Rattle.refusals.specs.declared.Refusal.TheVariants.{DebtTooLarge, EntryTooLarge}
+use Rattle.refusals.specs.declared.Refusal.TheVariants.{EntryTooLarge, DebtTooLarge}
 use Rattle.offset.proofs.Halving.{halving}
 use Rattle.client.specs.declared.Client.{Client}
 use Rattle.client.specs.Calls as calls
@@ -40,13 +42,13 @@ module _ (c : Client) (x : Arrival) (offset : ℤ) (half : ℕ) (delay : ℤ) wh
 
 -- an entry of a legal ledger
 module _ (i : Entry) (legal : nat_abs i.ledger.debt < 2 ^ 50) where
-  refusals : (n : ℕ) → Gives ((form entry).rules i) (refused n) → (n ≡ entry_too_large) ⊎ (n ≡ debt_too_large)
+  refusals : (n : ℕ) → Gives ((form entry).rules i) (refused n) → (n ≡ (number EntryTooLarge)) ⊎ (n ≡ (number DebtTooLarge))
   refusals n (inl (f, e)) = absurd (f legal)
   refusals n (inr (_, inl (f, e))) = inl (cc)
   refusals n (inr (_, inr (_, inl (f, e)))) = inr (cc)
   refusals n (inr (_, inr (_, inr (_, e)))) = let z : ◌≡◌ {A = ℕ} 0 1 = cc in absurd (omega arith)
 
-  refused_by_lem : (sum : ℤ) (n : ℕ) → (n ≡ entry_too_large) ⊎ (n ≡ debt_too_large) → OwedOrRefused i sum ((form entry).refusing i n)
+  refused_by_lem : (sum : ℤ) (n : ℕ) → (n ≡ (number EntryTooLarge)) ⊎ (n ≡ (number DebtTooLarge)) → OwedOrRefused i sum ((form entry).refusing i n)
   refused_by_lem sum n (inl e) = inr (inl (ap ((form entry).refusing i) e))
   refused_by_lem sum n (inr e) = inr (inr (ap ((form entry).refusing i) e))
 

@@ -1,4 +1,5 @@
 -- Demand 3 for one record of a list holds of ours: calls for the record are refused, calls for others leave it, and the rest is demand 3.
+use Rattle.refusals.specs.Given.{Given}
 use Prim.Native.Nat.{ℕ, zero, suc, ◌<◌}
 use mathlib.Core.Path.{◌≡◌, refl, sym, ap, subst, ◌∙◌}
 use mathlib.Core.Logic.{◌≢◌}
@@ -15,8 +16,7 @@ use Rattle.client.specs.declared.Phase.TheVariants.{Waiting}
 use Rattle.client.specs.Record.{fresh}
 use Rattle.client.specs.Ask.{waiting_for}
 use Rattle.client.specs.Calls as calls
-use Rattle.server.specs.declared.ReplyAnswer.{ReplyAnswer}
-use Rattle.association_rules.specs.declared.Alternate.{Alternate}
+use Rattle.std.specs.Prelude.{Option, Some, None}
 use Rattle.association_rules.specs.Associations.{association, alternate}
 use Rattle.association_rules.specs.InUse.{exists}
 use Rattle.association_rules.proofs.Alternates.{alternates}
@@ -53,14 +53,14 @@ set_legal (c ∷ rest) zero next (first, others) l = (l, others)
 set_legal (c ∷ rest) (suc k) next (first, others) l = (first, set_legal rest k next others l)
 
 -- the number in use stays in the list
-stays_in_list : (list : List Client) (r : calls.Result) (a : Alternate) (at in_use : ℕ) → at < length list → in_use < length list → alternate list at ≡ a → use_after r a at in_use < length list
+stays_in_list : (list : List Client) (r : calls.Told) (a : Option ℕ) (at in_use : ℕ) → at < length list → in_use < length list → alternate list at ≡ a → use_after r a at in_use < length list
 stays_in_list list (calls.refused n) a at in_use inside used e = used
 stays_in_list list calls.done a at in_use inside used e = used
 stays_in_list list (calls.accepted offset half delay) a at in_use inside used e = used
-stays_in_list list (calls.kiss code row) Alternate.None at in_use inside used e = used
-stays_in_list list (calls.kiss code row) (Alternate.Record i) at in_use inside used e = go (eqb at in_use) refl
+stays_in_list list (calls.kiss code row) None at in_use inside used e = used
+stays_in_list list (calls.kiss code row) (Some i) at in_use inside used e = go (eqb at in_use) refl
   where
-    go : (b : Bool) → eqb at in_use ≡ b → use_after (calls.kiss code row) (Alternate.Record i) at in_use < length list
+    go : (b : Bool) → eqb at in_use ≡ b → use_after (calls.kiss code row) (Some i) at in_use < length list
     go true s = rw s (alternates.in_list list at i e inside).0
     go false s = rw s used
 
@@ -103,8 +103,8 @@ module _ (at : ℕ) (w : Client) (waits : w.phase ≡ Waiting) where
   all_kept : (xs : List Numbered) (s : Associations) → AllPermitted at w.token w.uptime xs → Sound s → AllRefused ours at s xs × Sound (after ours s xs)
   all_kept [] s permitted sound = (tt, sound)
   all_kept (x ∷ xs) s (first, others) sound =
-      let (refused, kept) = all_kept xs (left ours (does ours s x)) others (next (eqb x.at at) refl) in
-      ((λ here. refused_here s x here (first here) sound, refused), kept)
+      let (refusals, kept) = all_kept xs (left ours (does ours s x)) others (next (eqb x.at at) refl) in
+      ((λ here. refused_here s x here (first here) sound, refusals), kept)
     where
       next : (b : Bool) → eqb x.at at ≡ b → Sound (left ours (does ours s x))
       next true e = let here = eqb-true x.at at e in here_kept s x here (first here) sound
@@ -178,7 +178,7 @@ module _ (r : Run) (p : Premises ours r) where
     calls = record { ask_accepted = not_refused; fits = p.fits; synchronised = p.synchronised; set = p.set; room = p.room; permitted = tt };
   })
 
-  abbrev replied : List ℕ → Written ReplyAnswer
+  abbrev replied : List ℕ → Written (Given (Unit {0}))
   replied octets = ours.does reply (record { settings = r.settings; request = take 48 octets; t2 = T2 r.exchange; t3 = T3 r.exchange; buffer = r.reply_buffer })
 
   octets_are : (the_ask ours r).octets ≡ (one_record.the_ask ours (readings r.exchange) run).octets

@@ -1,16 +1,18 @@
 -- The calls that read and add extension fields meet their forms.
+use Rattle.refusals.specs.Given.{Given}
+use Rattle.refusals.specs.Given.{answered}
+use Rattle.refusals.specs.Given.{numbered}
+use Rattle.std.specs.Prelude.{Result}
+use Rattle.refusals.specs.declared.Refusal.{Refusal}
 use Prim.Native.Nat.{ℕ, ◌≤◌}
 use native.Mathlib.Omega.{arith}
 use mathlib.Core.Path.{refl}
 use lib.ListN.{length, take, drop}
-use Rattle.ordered_tests.specs.Tests.{Given, answered, answer_of, kept_of}
+use Rattle.ordered_tests.specs.Tests.{kept_of}
 use Rattle.ordered_tests.proofs.Reflection.{WhereFalse, negated, at_least}
-use Rattle.extension.specs.declared.BeginAnswer.{BeginAnswer}
-use Rattle.extension.specs.declared.NextAnswer.{NextAnswer}
 use Rattle.extension.specs.Reader as reader
 use Rattle.extension.specs.Reader.{begin_tests, next_tests, begun}
 use Rattle.extension.proofs.Reading.{ends}
-use Rattle.extension_writer.specs.declared.AddAnswer.{AddAnswer}
 use Rattle.extension_writer.specs.Writer.{new_length, no_room, add_tests, with_field}
 use Rattle.demands.specs.Common.{Written}
 use Rattle.demands.specs.Begin as beginning
@@ -27,8 +29,8 @@ use Rattle.demands.proofs.Form.{Meets, ◌and◌, ◌or_else◌and◌, end, by, 
 pub begin_meets : Meets begin beginning.ours
 unfolding begun
 begin_meets = record {
-  proper = record { numbers = λ p. tt; refusals = λ p n l. by 1 n; others = λ p. acceptance_shown };
-  answers = table_answers begin beginning.ours begin_tests (λ p. answer_of BeginAnswer.Refused) (record {
+  proper = record { refusals = λ p n l. by 1 n; others = λ p. acceptance_shown };
+  answers = table_answers begin beginning.ours begin_tests (λ p. numbered) (record {
     is = λ p. refl;
     refusing = λ p n. refl;
     reflects = λ p. packet p and end refl;
@@ -38,8 +40,8 @@ begin_meets = record {
 pub next_meets : Meets next stepping.ours
 unfolding reader.next
 next_meets = record {
-  proper = record { numbers = λ x. tt; refusals = λ x n l. by 4 n; others = λ x. (acceptance_shown, acceptance_shown) };
-  answers = table_answers next stepping.ours (λ x. next_tests (drop x.cursor.at x.packet) x.cursor.at) (λ x. answer_of NextAnswer.Refused) (record {
+  proper = record { refusals = λ x n l. by 4 n; others = λ x. (acceptance_shown, acceptance_shown) };
+  answers = table_answers next stepping.ours (λ x. next_tests (drop x.cursor.at x.packet) x.cursor.at) (λ x. numbered) (record {
     is = λ x. refl;
     refusing = λ x n. refl;
     reflects = λ x. let t = drop x.cursor.at x.packet in begins_field_lem t or_else refl and negated (ends (length t)) and end refl;
@@ -49,14 +51,14 @@ next_meets = record {
 -- no test is made
 pub body_meets : Meets body bodies.ours
 body_meets = record {
-  proper = record { numbers = λ x. tt; refusals = λ x n l. by 0 n; others = λ x. acceptance_shown };
+  proper = record { refusals = λ x n l. by 0 n; others = λ x. acceptance_shown };
   answers = record { given = λ x. answered (bodies.ours x); by_rules = λ x. refl; done = λ x. refl };
 }
 
 -- ---- adding
 
-abbrev make : Add → Given AddAnswer → Written AddAnswer
-make x g = record { answer = answer_of AddAnswer.Refused g; octets = kept_of g x.buffer (with_field x.buffer x.size x.field_type x.body) }
+abbrev make : Add → Result ℕ Refusal → Written (Given ℕ)
+make x g = record { answer = numbered g; octets = kept_of g x.buffer (with_field x.buffer x.size x.field_type x.body) }
 
 room : (capacity size n : ℕ) → WhereFalse ((new_length size n ≤ capacity) × (new_length size n ≤ 1024)) (no_room capacity size n)
 unfolding no_room
@@ -67,7 +69,7 @@ room capacity size n =
 pub add_meets : Meets add adding.ours
 unfolding add_tests
 add_meets = record {
-  proper = record { numbers = λ x. tt; refusals = λ x n l. by 1 n; others = λ x. acceptance_shown };
+  proper = record { refusals = λ x n l. by 1 n; others = λ x. acceptance_shown };
   answers = table_answers add adding.ours (λ x. add_tests x.buffer x.size (length x.body)) make (record {
     is = λ x. refl;
     refusing = λ x n. refl;

@@ -1,6 +1,7 @@
 -- The calls for C meet their forms: fresh by its test, the others around the client's and the server's.
+use Rattle.ordered_tests.specs.Tests.{given}
 use Prim.Native.Nat.{ℕ}
-use mathlib.Core.Path.{◌≡◌, refl, sym, ap, subst, ◌∙◌}
+use mathlib.Core.Path.{◌≡◌, refl, ap, subst, ◌∙◌}
 use mathlib.Core.Logic.{◌≢◌}
 use mathlib.Core.Bool.{Bool, true, false, cond}
 use mathlib.Core.List.{List}
@@ -8,26 +9,35 @@ use native.Mathlib.Omega.{arith}
 use borrow.Author.Tests.{ne_eqb}
 use lib.Dec.{T, eqb}
 use lib.ListN.{length, get_or, replicate}
-use Rattle.refusals.specs.Numbers.{image_not_legal, listed}
-use Rattle.ordered_tests.specs.Tests.{Tests, otherwise, Given, refused, answered, answer_of, kept_of}
+use Rattle.refusals.specs.declared.Refusal.{Refusal}
+use Rattle.refusals.specs.declared.Refusal.TheVariants.{ImageNotLegal}
+use Rattle.refusals.specs.Numbers.{listed}
+use Rattle.std.specs.Prelude.{Result, Ok, Err}
+use Rattle.refusals.specs.declared.Refusal.{Refusal}
+use Rattle.refusals.specs.declared.Refusal.TheVariants.{ImageNotLegal}
+use Rattle.refusals.specs.Numbers.{number}
+use Rattle.ordered_tests.specs.Tests.{Tests, otherwise, answer_of, kept_of}
 use Rattle.ordered_tests.specs.Tests as tests
 use Rattle.client.specs.declared.Client.{Client}
 use Rattle.client.specs.Calls as calls
 use Rattle.firmware_layouts.specs.Image.{is_image, record_in}
 use Rattle.firmware_layouts.specs.Answer.{answer_in}
 use Rattle.firmware_layouts.proofs.Laws as layouts
-use Rattle.firmware.specs.Numbers.{number_of}
+use Rattle.refusals.specs.Given.{numbered, given_number}
+use Rattle.firmware.specs.Numbers.{number_of, replied_number}
 use Rattle.firmware.specs.Client as firmware
 use Rattle.firmware.specs.Client.{LentCall, ask, arrival, give_up}
 use Rattle.demands.specs.Form.{refusal, kiss, acceptance, Rules, ◌unless◌then◌, ◌provided◌else◌, does, refuses}
 use Rattle.demands.specs.Wrapper.{Wrapper, wrapped, through}
 use Rattle.demands.specs.Client as clients
 use Rattle.demands.specs.Client.{call_rules, client}
+use Rattle.server.specs.Server.{replied, replied_buffer}
+use Rattle.demands.specs.Reply as replies
 use Rattle.demands.specs.Reply.{Request, reply}
-use Rattle.demands.specs.ForC.{FreshOutcome, shown_number, fresh_for_c, ours_fresh, ImageCall, ImageOutcome, IsImage, SlicesFit, Admitted, lent_after, kind_of, shown, client_for_c, ours_client, RequestForC, inner_request, replying, reply_for_c, ours_reply}
+use Rattle.demands.specs.ForC.{returned, FreshOutcome, shown_number, fresh_for_c, ours_fresh, ImageCall, ImageOutcome, IsImage, SlicesFit, Admitted, lent_after, shown, client_for_c, ours_client, RequestForC, inner_request, replying, reply_for_c, ours_reply}
 use Rattle.ordered_tests.proofs.Reflection.{WhereTrue, negated, conjoined, is_true, equal}
 use Rattle.demands.proofs.Facts.{some}
-use Rattle.demands.proofs.Form.{Meets, Each, Accepted, ShownAs, ◌and◌, end, by, acceptance_shown, kiss_shown, table_answers, map_listed, map_each, wrapped_meets, Leads, ◌before◌, inner, led, same_program}
+use Rattle.demands.proofs.Form.{Meets, Each, Accepted, ShownAs, ◌and◌, end, by, acceptance_shown, kiss_shown, table_answers, map_each, wrapped_meets, Leads, ◌before◌, inner, led, same_program}
 use Rattle.demands.proofs.Legal.{legal_tested}
 use Rattle.demands.proofs.Client.{client_meets}
 use Rattle.demands.proofs.Reply.{reply_meets}
@@ -40,8 +50,8 @@ number_shown n l = rw (not_0 n l) (by 0 n)
 
 -- ---- fresh
 
-abbrev make : List ℕ → Given ℕ → FreshOutcome
-make image g = record { number = answer_of (λ n. n) g; image = kept_of g image (replicate 32 0) }
+abbrev make : List ℕ → Result ℕ Refusal → FreshOutcome
+make image g = record { number = answer_of number g; image = kept_of g image (replicate 32 0) }
 
 fresh_is : (image : List ℕ) (b : Bool) → eqb (length image) 32 ≡ b → ours_fresh image ≡ make image (tests.given (firmware.fresh_tests image))
 fresh_is image true e = rw e (λ i. record { number = 0; image = (layouts.laws).fresh_zero i })
@@ -49,7 +59,7 @@ fresh_is image false e = rw e refl
 
 pub fresh_meets : Meets fresh_for_c ours_fresh
 fresh_meets = record {
-  proper = record { numbers = λ image. tt; refusals = λ image. number_shown; others = λ image. acceptance_shown };
+  proper = record { refusals = λ image. number_shown; others = λ image. acceptance_shown };
   answers = table_answers fresh_for_c ours_fresh firmware.fresh_tests make (record {
     is = λ image. fresh_is image (eqb (length image) 32) refl;
     refusing = λ image n. refl;
@@ -111,25 +121,20 @@ leads : (i : ImageCall) → Leads client (lent_after i) (table i) (client_for_c.
 leads i = negated (admitted_tested i) before inner
 
 module _ (i : ImageCall) where
-  decided : (P : Given (Client × calls.Call) → Type 0) → P (refused image_not_legal) → P (answered (at_record i)) → P (tests.given (table i))
+  decided : (P : Result (Client × calls.Call) Refusal → Type 0) → P (Err ImageNotLegal) → P (Ok (at_record i)) → P (tests.given (table i))
   decided P out in-it = go (firmware.admitted i.image i.call) refl
     where
       go : (b : Bool) → firmware.admitted i.image i.call ≡ b → P (tests.given (table i))
       go true e = rw e in-it
       go false e = rw e out
 
-  numbers_listed : (n : ℕ) → tests.given (table i) ≡ refused n → T (listed n)
-  numbers_listed n = decided (λ g. g ≡ refused n → T (listed n))
-      (λ e. let s : image_not_legal ≡ n = cc in subst (λ x. T (listed x)) s tt)
-      (λ e. let z : ◌≡◌ {A = ℕ} 0 1 = cc in absurd (omega arith))
-
   -- an inner refusal is a refusal by the same number
   pub refused_in : (c : Client) (n : ℕ) → lent_after i (client.refusing (c, firmware.inner i.call) n) ≡ client_for_c.refusing i n
   unfolding answer_in
   refused_in c n = refl
 
-  refused_so : (x : Client × calls.Call) (n : ℕ) → tests.given (table i) ≡ answered x → lent_after i (client.refusing x n) ≡ client_for_c.refusing i n
-  refused_so x n = decided (λ g. g ≡ answered x → lent_after i (client.refusing x n) ≡ client_for_c.refusing i n)
+  refused_so : (x : Client × calls.Call) (n : ℕ) → tests.given (table i) ≡ Ok x → lent_after i (client.refusing x n) ≡ client_for_c.refusing i n
+  refused_so x n = decided (λ g. g ≡ Ok x → lent_after i (client.refusing x n) ≡ client_for_c.refusing i n)
       (λ e. let z : ◌≡◌ {A = ℕ} 0 1 = cc in absurd (omega arith))
       (λ e. let s : at_record i ≡ x = cc in subst (λ y. lent_after i (client.refusing y n) ≡ client_for_c.refusing i n) s (refused_in (record_in i.image) n))
 
@@ -144,7 +149,7 @@ module _ (i : ImageCall) where
   pub agrees : Admitted i → ours_client i ≡ lent_after i (clients.ours (at_record i))
   agrees a = is_ours ∙ rw ((is_true (firmware.admitted i.image i.call)).from ((admitted_tested i).to a)) refl
 
-  pub not_admitted : firmware.admitted i.image i.call ≡ false → ours_client i ≡ client_for_c.refusing i image_not_legal
+  pub not_admitted : firmware.admitted i.image i.call ≡ false → ours_client i ≡ client_for_c.refusing i (number ImageNotLegal)
   not_admitted e = is_ours ∙ rw e refl
 
 -- where the number is 0 the kind is no refusal
@@ -176,7 +181,6 @@ module _ (i : ImageCall) where
 
 around : Meets (wrapped client lending) (through client lending clients.ours)
 around = wrapped_meets client_meets lending (record {
-  numbers = numbers_listed;
   refusing = refused_so;
   refusals = refusal_shown;
   others = λ i (c, x) e. shows_accepted i c x;
@@ -185,7 +189,6 @@ around = wrapped_meets client_meets lending (record {
 pub client_for_c_meets : Meets client_for_c ours_client
 client_for_c_meets = record {
   proper = record {
-    numbers = λ i. map_listed client_meets lending (lent_after i) (call_rules (at_record i).0 (at_record i).1) (client_meets.proper.numbers (at_record i));
     refusals = refusal_shown;
     others = λ i. map_each client_meets lending (lent_after i) (Accepted client_for_c) (call_rules (at_record i).0 (at_record i).1) (shows_accepted i (at_record i).0 (at_record i).1);
   };
@@ -198,9 +201,18 @@ client_for_c_meets = record {
 
 -- ---- the server
 
+number_same : (o : Result (Unit {0}) Refusal) → replied_number o ≡ given_number (numbered o)
+number_same (Err r) = refl
+number_same (Ok u) = refl
+
+-- what is returned is made of what the server does
+pub reply_same : (x : RequestForC) → ours_reply x ≡ returned (replies.ours (inner_request x))
+reply_same x =
+    let q = inner_request x in
+    ap (λ n. record { answer = n; octets = replied_buffer q.settings q.request q.t2 q.t3 q.buffer }) (number_same (replied q.settings q.request q.t2 q.t3 q.buffer))
+
 pub reply_for_c_meets : Meets reply_for_c ours_reply
-reply_for_c_meets = same_program (λ x. refl) (wrapped_meets reply_meets replying (record {
-  numbers = λ x n e. let z : ◌≡◌ {A = ℕ} 0 1 = cc in absurd (omega arith);
+reply_for_c_meets = same_program reply_same (wrapped_meets reply_meets replying (record {
   refusing = λ x y n e. let s : inner_request x ≡ y = cc in subst (λ (q : Request). replying.show x (reply.refusing q n) ≡ replying.refusing x n) s refl;
   refusals = λ x. number_shown;
   others = λ x y e. acceptance_shown;

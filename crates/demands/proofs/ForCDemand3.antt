@@ -6,22 +6,23 @@ use mathlib.Core.Bool.{Bool, true, false}
 use mathlib.Core.List.{List, [], ◌∷◌}
 use native.Mathlib.Omega.{arith}
 use borrow.Author.Tests.{ne_eqb}
-use lib.Dec.{T, eqb}
-use lib.ListN.{length, get_or, take}
-use Rattle.refusals.specs.Numbers.{image_not_legal, listed}
+use lib.Dec.{eqb}
+use lib.ListN.{get_or, take}
+use Rattle.refusals.specs.Numbers.{number}
+use Rattle.refusals.specs.declared.Refusal.TheVariants.{ImageNotLegal}
+use Rattle.refusals.specs.declared.Refusal.TheVariants.{ImageNotLegal}
 use Rattle.arithmetic.proofs.Modulo.{modulo_below}
 use Rattle.token.specs.Token as tokens
 use Rattle.client.specs.declared.Client.{Client}
 use Rattle.client.specs.declared.Phase.TheVariants.{Waiting}
 use Rattle.client.specs.Ask.{waiting_for}
 use Rattle.client.specs.Calls as calls
-use Rattle.server.specs.declared.ReplyAnswer.{ReplyAnswer}
 use Rattle.clocks.specs.Exchange.{reading, readings}
-use Rattle.firmware_layouts.specs.Image.{image_of, is_image, record_in}
+use Rattle.firmware_layouts.specs.Image.{image_of, record_in}
 use Rattle.firmware_layouts.specs.Answer.{answer_in}
 use Rattle.firmware_layouts.specs.Laws.{Typed}
 use Rattle.firmware_layouts.proofs.Laws as layouts
-use Rattle.firmware.specs.Numbers.{yes, number_of, replied_number}
+use Rattle.firmware.specs.Numbers.{yes, number_of}
 use Rattle.firmware.specs.Client as firmware
 use Rattle.firmware.specs.Client.{LentCall, ask, arrival, inner}
 use Rattle.demands.specs.Form.{refusal}
@@ -29,7 +30,7 @@ use Rattle.demands.specs.Common.{Written}
 use Rattle.demands.specs.Legal.{Legal}
 use Rattle.demands.specs.Client.{call_rules}
 use Rattle.demands.specs.Measure.{Four, d}
-use Rattle.demands.specs.Behaviour.{client, reply, client_for_c, reply_for_c, form, ours}
+use Rattle.demands.specs.Behaviour.{client, reply, client_for_c, form, ours}
 use Rattle.demands.specs.ForC.{ImageCall, ImageOutcome, Admitted, lent_after, shown, inner_request, returned}
 use Rattle.demands.specs.Demand3 as inner-demand
 use Rattle.demands.specs.Demand3.{Permitted}
@@ -42,7 +43,8 @@ use Rattle.demands.proofs.Client.{client_meets}
 use Rattle.demands.proofs.Between as between
 use Rattle.demands.proofs.Served.{Asked, asked_is}
 use Rattle.demands.proofs.Demand3.{demand3}
-use Rattle.demands.proofs.ForC.{not_refusal, client_for_c_meets, agrees, not_admitted, refused_in, admitted_tested}
+use Rattle.refusals.specs.Given.{given_number}
+use Rattle.demands.proofs.ForC.{reply_same, not_refusal, client_for_c_meets, agrees, not_admitted, refused_in, admitted_tested}
 
 -- ---- a call that returns 0
 
@@ -69,7 +71,7 @@ module _ (w : Client) (waits : w.phase ≡ Waiting) (image : List ℕ) (is : rec
       i = record { image = image; call = x }
 
       go : (b : Bool) → firmware.admitted image x ≡ b → IsRefused ours image x
-      go false e = record { by = image_not_legal; listed = tt; is = not_admitted i e }
+      go false e = record { by = (number ImageNotLegal); listed = tt; is = not_admitted i e }
       go true e =
           let r = between.is_refused w waits (inner x) p in
           let a = (admitted_tested i).from ((is_true (firmware.admitted image x)).to e) in
@@ -181,7 +183,7 @@ module _ (r : Run) (p : Premises ours r) where
   }))
 
   reply_is : the_reply ours r ≡ returned (inner-demand.the_reply ours t inner_run)
-  reply_is = ap reply_to_lem octets_are
+  reply_is = reply_same (request ours r) ∙ ap reply_to_lem octets_are
 
   -- ---- the arrival
 
@@ -202,7 +204,7 @@ module _ (r : Run) (p : Premises ours r) where
   arrived_as = agrees arriving arrival_admitted
 
   -- what the inner arrival tells, of a record and of the octets of a reply
-  abbrev told : Client → List ℕ → calls.Result
+  abbrev told : Client → List ℕ → calls.Told
   told d octets = (ours.does client (d, calls.arrival (record { packet = take 48 octets; t4 = t.t4; alternate = yes r.alternate }))).result
 
   told_is : told (record_in arriving.image) (the_reply ours r).octets ≡ calls.accepted concluded.offset concluded.half (d t)
@@ -215,7 +217,7 @@ module _ (r : Run) (p : Premises ours r) where
   kept = record {
     refusals = all_refused w refl (the_ask ours r).image back r.calls p.permitted;
     unchanged = image_stays;
-    answered = ap (λ (o : Written ℕ). o.answer) reply_is ∙ ap replied_number concluded.calls.answered;
+    answered = ap (λ (o : Written ℕ). o.answer) reply_is ∙ ap given_number concluded.calls.answered;
     offset = concluded.offset;
     half = concluded.half;
     half_0_or_1 = concluded.half_0_or_1;

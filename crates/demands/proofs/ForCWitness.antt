@@ -8,7 +8,7 @@ use Rattle.arithmetic.specs.Octets.{octets}
 use Rattle.arithmetic.specs.TwosComplement.{signed, bits, difference}
 use Rattle.slices.specs.Slices.{read_at}
 use Rattle.timestamp.specs.Timestamp.{is_zero, ◌since◌, has_no_order}
-use Rattle.offset.specs.Offset.{offset_tests, floor_half, half_of}
+use Rattle.offset.specs.Offset.{offset_tests}
 use Rattle.extension.specs.Reading as tails
 use Rattle.packet.specs.Packet.{fields_of, octets_of}
 use Rattle.poll.specs.Poll.{too_soon}
@@ -23,7 +23,6 @@ use Rattle.client.specs.Ask.{ask_tests, after_ask, after_ask_buffer}
 use Rattle.client.specs.Arrival.{arrived, arrival_answer}
 use Rattle.client.specs.GiveUp.{give_up_tests, gave_up}
 use Rattle.firmware_layouts.specs.Image.{image_of, record_in, has_legal_values, is_image}
-use Rattle.firmware_layouts.specs.Answer.{answer_in}
 use Rattle.firmware.specs.Client as firmware
 use Rattle.demands.specs.ForCDemand3.{PremisesMet}
 

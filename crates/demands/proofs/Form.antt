@@ -1,5 +1,6 @@
 -- Laws of the form: rules give one thing, so that demand 2 leaves one program for a call; a call that goes by a table of tests which says what its rules
 -- say meets both demands; and so does a call around one that meets them.
+use Rattle.ordered_tests.specs.Tests.{given}
 use Prim.Native.Nat.{ℕ}
 use mathlib.Core.Path.{◌≡◌, refl, sym, ap, subst, ◌∙◌}
 use mathlib.Core.Logic.{◌≢◌, ◌⊎◌, inl, inr}
@@ -8,9 +9,13 @@ use native.Mathlib.Omega.{arith}
 use lib.Dec.{T}
 use lib.IntN.{pos}
 use lib.ListN.{length, replicate, length-replicate}
-use mir.Facts.{and_yes, yes_and}
-use Rattle.refusals.specs.Numbers.{listed}
-use Rattle.ordered_tests.specs.Tests.{Tests, ◌if◌else◌, ◌when◌else◌, otherwise, Given, refused, answered}
+use mir.Facts.{and_yes}
+use Rattle.std.specs.Prelude.{Result, Ok, Err}
+use Rattle.refusals.specs.declared.Refusal.{Refusal}
+use Rattle.refusals.specs.Numbers.{number, listed}
+use Rattle.refusals.specs.Given.{Given, refused, answered}
+use Rattle.refusals.proofs.Laws.{each_listed}
+use Rattle.ordered_tests.specs.Tests.{Tests, ◌if◌else◌, ◌when◌else◌, otherwise}
 use Rattle.ordered_tests.specs.Tests as tests
 use Rattle.demands.specs.Form.{refusal, acceptance, kiss, Shown, refused_by, Rules, ◌unless◌then◌, ◌provided◌else◌, does, refuses, Gives, Form, Implementation, outcome, Refuses, Answers}
 use Rattle.ordered_tests.proofs.Reflection.{WhereTrue, WhereFalse, contradiction}
@@ -77,29 +82,38 @@ passes (refuses n) o p = absurd p
 
 -- ---- what demand 1 asks of a program that meets demand 2: the rules' numbers are listed, a refusal shows its number, and no outcome of the rules is one
 
--- every number of the rules have the property
-abbrev pub numbered : {O : Type 0} → (ℕ → Bool) → Rules O → Bool
-numbered q (n unless P then rest) = q n && numbered q rest
-numbered q (o provided P else rest) = numbered q rest
-numbered q (does o) = true
-numbered q (refuses n) = q n
-
--- and every outcome
+-- every outcome of the rules has the property
 abbrev pub Each : {O : Type 0} → (O → Type 0) → Rules O → Type 0
 Each Q (n unless P then rest) = Each Q rest
 Each Q (o provided P else rest) = Q o × Each Q rest
 Each Q (does o) = Q o
 Each Q (refuses n) = Unit {0}
 
--- then so has what the rules give
-pub number_in : {O : Type 0} (q : ℕ → Bool) (r : Rules O) (n : ℕ) → T (numbered q r) → Gives r (refused n) → T (q n)
-number_in q (m unless P then rest) n l (inl (x, e)) = subst (λ x. T (q x)) (same_number (sym e)) (and_yes (q m) (numbered q rest) l).0
-number_in q (m unless P then rest) n l (inr (p, g)) = number_in q rest n (and_yes (q m) (numbered q rest) l).1 g
+-- a refusal of the rules has a listed number
+pub number_listed : {O : Type 0} (r : Rules O) (n : ℕ) → Gives r (refused n) → T (listed n)
+number_listed (x unless P then rest) n (inl (y, e)) = subst (λ m. T (listed m)) (same_number (sym e)) (each_listed x)
+number_listed (x unless P then rest) n (inr (p, g)) = number_listed rest n g
+number_listed (o provided P else rest) n (inl (p, e)) = absurd (not_refused (sym e))
+number_listed (o provided P else rest) n (inr (x, g)) = number_listed rest n g
+number_listed (does o) n e = absurd (not_refused (sym e))
+number_listed (refuses x) n e = subst (λ m. T (listed m)) (same_number (sym e)) (each_listed x)
+
+-- every number of the rules has the property, and so has that of a refusal that they give
+abbrev pub each_number : {O : Type 0} → (ℕ → Bool) → Rules O → Bool
+each_number q (x unless P then rest) = q (number x) && each_number q rest
+each_number q (o provided P else rest) = each_number q rest
+each_number q (does o) = true
+each_number q (refuses x) = q (number x)
+
+pub number_in : {O : Type 0} (q : ℕ → Bool) (r : Rules O) (n : ℕ) → T (each_number q r) → Gives r (refused n) → T (q n)
+number_in q (x unless P then rest) n l (inl (y, e)) = subst (λ m. T (q m)) (same_number (sym e)) (and_yes (q (number x)) (each_number q rest) l).0
+number_in q (x unless P then rest) n l (inr (p, g)) = number_in q rest n (and_yes (q (number x)) (each_number q rest) l).1 g
 number_in q (o provided P else rest) n l (inl (p, e)) = absurd (not_refused (sym e))
 number_in q (o provided P else rest) n l (inr (x, g)) = number_in q rest n l g
 number_in q (does o) n l e = absurd (not_refused (sym e))
-number_in q (refuses m) n l e = subst (λ x. T (q x)) (same_number (sym e)) l
+number_in q (refuses x) n l e = subst (λ m. T (q m)) (same_number (sym e)) l
 
+-- and an outcome of the rules has the property of each
 pub outcome_in : {O : Type 0} (Q : O → Type 0) (r : Rules O) (o : O) → Each Q r → Passes r o → Q o
 outcome_in Q (n unless P then rest) o all (p, q) = outcome_in Q rest o all q
 outcome_in Q (a provided P else rest) o (first, others) (inl (p, e)) = subst Q e first
@@ -128,7 +142,6 @@ pub kiss_shown : (kiss ≢ refusal) × (◌≡◌ {A = ℕ} 0 0)
 kiss_shown = (λ e. let z : ◌≡◌ {A = ℕ} 0 1 = cc in omega arith, refl)
 
 pub record Proper (F : Form) : Type 0 where
-  pub numbers : (i : F.Input) → T (numbered listed (F.rules i))
   pub refusals : (i : F.Input) (n : ℕ) → T (listed n) → ShownAs n (F.shown (F.refusing i n))
   pub others : (i : F.Input) → Each (Accepted F) (F.rules i)
 
@@ -144,7 +157,7 @@ module _ {F : Form} {f : Implementation F} (m : Meets F f) where
   either i P refusals outcomes = subst P (sym (m.answers.done i)) (go (m.answers.given i) (m.answers.by_rules i))
     where
       go : (g : Given F.Outcome) → Gives (F.rules i) g → P (outcome F i g)
-      go (refused n) p = refusals n (number_in listed (F.rules i) n (m.proper.numbers i) p) p
+      go (refused n) p = refusals n (number_listed (F.rules i) n p) p
       go (answered o) p = outcomes o (passed (F.rules i) o p)
 
   accepted : (i : F.Input) (o : F.Outcome) → Passes (F.rules i) o → Accepted F o
@@ -182,7 +195,7 @@ module _ {F : Form} {f : Implementation F} (m : Meets F f) where
 -- the table says row by row what the rules say; `say` is the outcome that an answer of the table makes
 infixr 3 ◌and◌ ◌or_else◌and◌
 pub data Reflects {A O : Type 0} (say : A → O) : Tests A → Rules O → Type 1 where
-  ◌and◌ : {n : ℕ} {b : Bool} {P : Type 0} {t : Tests A} {r : Rules O} → WhereFalse P b → Reflects say t r → Reflects say (n if b else t) (n unless P then r)
+  ◌and◌ : {x : Refusal} {b : Bool} {P : Type 0} {t : Tests A} {r : Rules O} → WhereFalse P b → Reflects say t r → Reflects say (x if b else t) (x unless P then r)
   ◌or_else◌and◌ : {a : A} {o : O} {b : Bool} {P : Type 0} {t : Tests A} {r : Rules O} → WhereTrue P b → say a ≡ o → Reflects say t r
       → Reflects say (a when b else t) (o provided P else r)
   end : {a : A} {o : O} → say a ≡ o → Reflects say (otherwise a) (does o)
@@ -191,8 +204,12 @@ abbrev map_given : {A O : Type 0} → (A → O) → Given A → Given O
 map_given say (refused n) = refused n
 map_given say (answered a) = answered (say a)
 
+abbrev given_by : {A O : Type 0} → (A → O) → Result A Refusal → Given O
+given_by say (Err r) = refused (number r)
+given_by say (Ok a) = answered (say a)
+
 -- so the rules give what the table gives
-reflected : {A O : Type 0} {say : A → O} {t : Tests A} {r : Rules O} → Reflects say t r → Gives r (map_given say (tests.given t))
+reflected : {A O : Type 0} {say : A → O} {t : Tests A} {r : Rules O} → Reflects say t r → Gives r (given_by say (tests.given t))
 reflected (◌and◌ {b = true} p rest) = inl (p.to, refl)
 reflected (◌and◌ {b = false} p rest) = inr (p.from tt, reflected rest)
 reflected (◌or_else◌and◌ {b = true} p e rest) = inl (p.from tt, ap answered e)
@@ -200,20 +217,20 @@ reflected (◌or_else◌and◌ {b = false} p e rest) = inr (p.to, reflected rest
 reflected (end e) = ap answered e
 
 -- `make` is what the call makes of what its table gives
-module _ (F : Form) (f : Implementation F) {A : F.Input → Type 0} (table : (i : F.Input) → Tests (A i)) (make : (i : F.Input) → Given (A i) → F.Outcome) where
+module _ (F : Form) (f : Implementation F) {A : F.Input → Type 0} (table : (i : F.Input) → Tests (A i)) (make : (i : F.Input) → Result (A i) Refusal → F.Outcome) where
   pub record Table : Type 1 where
     pub is : (i : F.Input) → f i ≡ make i (tests.given (table i))
-    pub refusing : (i : F.Input) (n : ℕ) → make i (refused n) ≡ F.refusing i n
-    pub reflects : (i : F.Input) → Reflects (λ a. make i (answered a)) (table i) (F.rules i)
+    pub refusing : (i : F.Input) (r : Refusal) → make i (Err r) ≡ F.refusing i (number r)
+    pub reflects : (i : F.Input) → Reflects (λ a. make i (Ok a)) (table i) (F.rules i)
 
   module _ (t : Table) where
-    made : (i : F.Input) (g : Given (A i)) → make i g ≡ outcome F i (map_given (λ a. make i (answered a)) g)
-    made i (refused n) = t.refusing i n
-    made i (answered a) = refl
+    made : (i : F.Input) (g : Result (A i) Refusal) → make i g ≡ outcome F i (given_by (λ a. make i (Ok a)) g)
+    made i (Err r) = t.refusing i r
+    made i (Ok a) = refl
 
     pub table_answers : Answers F f
     table_answers = record {
-      given = λ i. map_given (λ a. make i (answered a)) (tests.given (table i));
+      given = λ i. given_by (λ a. make i (Ok a)) (tests.given (table i));
       by_rules = λ i. reflected (t.reflects i);
       done = λ i. t.is i ∙ made i (tests.given (table i));
     }
@@ -222,10 +239,9 @@ module _ (F : Form) (f : Implementation F) {A : F.Input → Type 0} (table : (i 
 
 module _ {F : Form} {f : Implementation F} (m : Meets F f) (W : Wrapper F) where
   pub record Wraps : Type 0 where
-    pub numbers : (i : W.Input) (n : ℕ) → W.read i ≡ refused n → T (listed n)
-    pub refusing : (i : W.Input) (x : F.Input) (n : ℕ) → W.read i ≡ answered x → W.show i (F.refusing x n) ≡ W.refusing i n
+    pub refusing : (i : W.Input) (x : F.Input) (n : ℕ) → W.read i ≡ Ok x → W.show i (F.refusing x n) ≡ W.refusing i n
     pub refusals : (i : W.Input) (n : ℕ) → T (listed n) → ShownAs n (W.shown (W.refusing i n))
-    pub others : (i : W.Input) (x : F.Input) → W.read i ≡ answered x → Each (λ o. Accepted (wrapped F W) (W.show i o)) (F.rules x)
+    pub others : (i : W.Input) (x : F.Input) → W.read i ≡ Ok x → Each (λ o. Accepted (wrapped F W) (W.show i o)) (F.rules x)
 
   mapped : {A B : Type 0} (h : A → B) (r : Rules A) (g : Given A) → Gives r g → Gives (map_rules h r) (map_given h g)
   mapped h (n unless P then rest) g (inl (x, e)) = inl (x, ap (map_given h) e)
@@ -235,14 +251,6 @@ module _ {F : Form} {f : Implementation F} (m : Meets F f) (W : Wrapper F) where
   mapped h (does o) g e = ap (map_given h) e
   mapped h (refuses n) g e = ap (map_given h) e
 
-  pub map_listed : {A B : Type 0} (h : A → B) (r : Rules A) → T (numbered listed r) → T (numbered listed (map_rules h r))
-  map_listed h (n unless P then rest) l =
-      let (first, others) = and_yes (listed n) (numbered listed rest) l in
-      yes_and (listed n) (numbered listed (map_rules h rest)) first (map_listed h rest others)
-  map_listed h (o provided P else rest) l = map_listed h rest l
-  map_listed h (does o) l = tt
-  map_listed h (refuses n) l = l
-
   pub map_each : {A B : Type 0} (h : A → B) (Q : B → Type 0) (r : Rules A) → Each (λ a. Q (h a)) r → Each Q (map_rules h r)
   map_each h Q (n unless P then rest) a = map_each h Q rest a
   map_each h Q (o provided P else rest) (first, others) = (first, map_each h Q rest others)
@@ -250,34 +258,29 @@ module _ {F : Form} {f : Implementation F} (m : Meets F f) (W : Wrapper F) where
   map_each h Q (refuses n) a = a
 
   module _ (w : Wraps) where
-    abbrev given_at : (i : W.Input) → Given F.Input → Given W.Outcome
-    given_at i (refused n) = refused n
-    given_at i (answered x) = map_given (W.show i) (m.answers.given x)
+    abbrev given_at : (i : W.Input) → Result F.Input Refusal → Given W.Outcome
+    given_at i (Err r) = refused (number r)
+    given_at i (Ok x) = map_given (W.show i) (m.answers.given x)
 
-    by_rules_at : (i : W.Input) (g : Given F.Input) → Gives (rules_of F W i g) (given_at i g)
-    by_rules_at i (refused n) = refl
-    by_rules_at i (answered x) = mapped (W.show i) (F.rules x) (m.answers.given x) (m.answers.by_rules x)
+    by_rules_at : (i : W.Input) (g : Result F.Input Refusal) → Gives (rules_of F W i g) (given_at i g)
+    by_rules_at i (Err r) = refl
+    by_rules_at i (Ok x) = mapped (W.show i) (F.rules x) (m.answers.given x) (m.answers.by_rules x)
 
-    shown_at : (i : W.Input) (x : F.Input) → W.read i ≡ answered x → (g : Given F.Outcome) → W.show i (outcome F x g) ≡ outcome (wrapped F W) i (map_given (W.show i) g)
+    shown_at : (i : W.Input) (x : F.Input) → W.read i ≡ Ok x → (g : Given F.Outcome) → W.show i (outcome F x g) ≡ outcome (wrapped F W) i (map_given (W.show i) g)
     shown_at i x e (refused n) = w.refusing i x n e
     shown_at i x e (answered o) = refl
 
-    done_at : (i : W.Input) (g : Given F.Input) → W.read i ≡ g → over F W f i g ≡ outcome (wrapped F W) i (given_at i g)
-    done_at i (refused n) e = refl
-    done_at i (answered x) e = ap (W.show i) (m.answers.done x) ∙ shown_at i x e (m.answers.given x)
+    done_at : (i : W.Input) (g : Result F.Input Refusal) → W.read i ≡ g → over F W f i g ≡ outcome (wrapped F W) i (given_at i g)
+    done_at i (Err r) e = refl
+    done_at i (Ok x) e = ap (W.show i) (m.answers.done x) ∙ shown_at i x e (m.answers.given x)
 
-    numbers_at : (i : W.Input) (g : Given F.Input) → W.read i ≡ g → T (numbered listed (rules_of F W i g))
-    numbers_at i (refused n) e = w.numbers i n e
-    numbers_at i (answered x) e = map_listed (W.show i) (F.rules x) (m.proper.numbers x)
-
-    others_at : (i : W.Input) (g : Given F.Input) → W.read i ≡ g → Each (Accepted (wrapped F W)) (rules_of F W i g)
-    others_at i (refused n) e = tt
-    others_at i (answered x) e = map_each (W.show i) (Accepted (wrapped F W)) (F.rules x) (w.others i x e)
+    others_at : (i : W.Input) (g : Result F.Input Refusal) → W.read i ≡ g → Each (Accepted (wrapped F W)) (rules_of F W i g)
+    others_at i (Err r) e = tt
+    others_at i (Ok x) e = map_each (W.show i) (Accepted (wrapped F W)) (F.rules x) (w.others i x e)
 
     pub wrapped_meets : Meets (wrapped F W) (through F W f)
     wrapped_meets = record {
       proper = record {
-        numbers = λ i. numbers_at i (W.read i) refl;
         refusals = w.refusals;
         others = λ i. others_at i (W.read i) refl;
       };
@@ -293,7 +296,7 @@ module _ {F : Form} {f : Implementation F} (m : Meets F f) (W : Wrapper F) where
 -- the table says row by row what the rules say, and ends at what the inner call is given
 infixr 3 ◌before◌
 pub data Leads (F : Form) {O : Type 0} (show : F.Outcome → O) : Tests F.Input → Rules O → Type 1 where
-  ◌before◌ : {n : ℕ} {b : Bool} {P : Type 0} {t : Tests F.Input} {r : Rules O} → WhereFalse P b → Leads F show t r → Leads F show (n if b else t) (n unless P then r)
+  ◌before◌ : {x : Refusal} {b : Bool} {P : Type 0} {t : Tests F.Input} {r : Rules O} → WhereFalse P b → Leads F show t r → Leads F show (x if b else t) (x unless P then r)
   inner : {x : F.Input} → Leads F show (otherwise x) (map_rules show (F.rules x))
 
 -- an outcome of rules with something made of each is made of an outcome of the rules

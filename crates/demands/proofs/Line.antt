@@ -1,4 +1,5 @@
 -- A line of a replay meets its form.
+use Rattle.std.specs.Prelude.{Option, Some, None}
 use Prim.Native.Nat.{ℕ}
 use mathlib.Core.Path.{◌≡◌, refl, sym, ap, subst, ◌∙◌}
 use mathlib.Core.Logic.{◌≢◌, ◌↔◌}
@@ -8,35 +9,35 @@ use native.Mathlib.Omega.{arith}
 use borrow.Author.Tests.{eqb-true}
 use lib.Dec.{T, eqb}
 use mir.Facts.{eqb_no}
-use Rattle.refusals.specs.Numbers.{listed, line_malformed}
-use Rattle.ordered_tests.specs.Tests.{Given, refused, answered}
+use Rattle.refusals.specs.declared.Refusal.{Refusal}
+use Rattle.refusals.specs.declared.Refusal.TheVariants.{LineMalformed}
+use Rattle.refusals.specs.Numbers.{listed}
+use Rattle.std.specs.Prelude.{Result, Ok, Err}
+use Rattle.refusals.specs.declared.Refusal.{Refusal}
+use Rattle.refusals.specs.declared.Refusal.TheVariants.{LineMalformed}
+use Rattle.refusals.specs.Numbers.{number}
 use Rattle.client.specs.declared.Client.{Client}
 use Rattle.client.specs.Calls as calls
 use Rattle.client.specs.Calls.{Call, ask, arrival, give_up}
 use Rattle.hex_decode.specs.Decoding.{decode}
 use Rattle.frames.specs.Frames as frames
-use Rattle.frames.specs.Frames.{Parsed, call, malformed, parsed}
+use Rattle.frames.specs.Frames.{parsed}
 use Rattle.demands.specs.Wrapper.{over}
 use Rattle.demands.specs.Client as clients
 use Rattle.demands.specs.Client.{call_rules, client}
 use Rattle.demands.specs.Line.{carried, carrying, shown, line, ours}
 use Rattle.ordered_tests.proofs.Reflection.{contradiction}
-use Rattle.demands.proofs.Form.{Meets, Each, Accepted, ShownAs, numbered, number_in, outcome_in, either, acceptance_shown, kiss_shown, wrapped_meets, same_program}
+use Rattle.demands.proofs.Form.{Meets, Each, Accepted, ShownAs, each_number, number_in, outcome_in, either, acceptance_shown, kiss_shown, wrapped_meets, same_program}
 use Rattle.demands.proofs.Client.{client_meets}
 
--- 64 is listed, and the only number that reading gives
-read_listed : (c : Client) (x : Parsed) (n : ℕ) → carried c x ≡ refused n → T (listed n)
-read_listed c (call x) n e = let z : ◌≡◌ {A = ℕ} 0 1 = cc in absurd (omega arith)
-read_listed c malformed n e = let s : line_malformed ≡ n = cc in subst (λ x. T (listed x)) s tt
-
 -- a line is read with its own client
-own : (c d : Client) (x : Parsed) (y : Call) → carried c x ≡ answered (d, y) → d ≡ c
-own c d (call x) y e = ap first_of (sym e)
+own : (c d : Client) (x : Option Call) (y : Call) → carried c x ≡ Ok (d, y) → d ≡ c
+own c d (Some x) y e = ap first_of (sym e)
   where
-    first_of : Given (Client × Call) → Client
-    first_of (refused n) = c
-    first_of (answered p) = p.0
-own c d malformed y e = let z : ◌≡◌ {A = ℕ} 0 1 = cc in absurd (omega arith)
+    first_of : Result (Client × Call) Refusal → Client
+    first_of (Err r) = c
+    first_of (Ok p) = p.0
+own c d None y e = let z : ◌≡◌ {A = ℕ} 0 1 = cc in absurd (omega arith)
 
 -- no listed number is E0 or 0
 pub number_shown : (n : ℕ) → T (listed n) → ShownAs n (shown (n ∷ []))
@@ -54,13 +55,12 @@ shows_accepted c l (ask x) = acceptance_shown
 shows_accepted c l (arrival x) = (kiss_shown, acceptance_shown)
 shows_accepted c l (give_up x) = acceptance_shown
 
-is_ours : (c : Client) (l : List ℕ) (x : Parsed) → frames.reply_to calls.step c x ≡ over client carrying clients.ours (c, l) (carried c x)
-is_ours c l (call x) = refl
-is_ours c l malformed = refl
+is_ours : (c : Client) (l : List ℕ) (x : Option Call) → frames.reply_to calls.step c x ≡ over client carrying clients.ours (c, l) (carried c x)
+is_ours c l (Some x) = refl
+is_ours c l None = refl
 
 pub line_meets : Meets line ours
 line_meets = same_program (λ (c, l). is_ours c l (parsed (decode l))) (wrapped_meets client_meets carrying (record {
-  numbers = λ (c, l). read_listed c (parsed (decode l));
   refusing = λ (c, l) (d, y) n e. λ i. record { client = own c d (parsed (decode l)) y e i; octets = n ∷ [] };
   refusals = λ i. number_shown;
   others = λ (c, l) (d, x) e. shows_accepted d l x;
@@ -68,18 +68,18 @@ line_meets = same_program (λ (c, l). is_ours c l (parsed (decode l))) (wrapped_
 
 -- ---- 64
 
-call_not : (c : Client) (l : List ℕ) (x : Call) → (shown (frames.reply_to calls.step c (call x)).octets).number ≢ line_malformed
+call_not : (c : Client) (l : List ℕ) (x : Call) → (shown (frames.reply_to calls.step c (Some x)).octets).number ≢ number LineMalformed
 call_not c l x =
-    either client_meets (c, x) (λ o. (shown (frames.answer_octets o.result o.octets)).number ≢ line_malformed)
-    (λ n listed p e. eqb_no (number_in (λ n. not (eqb n line_malformed)) (call_rules c x) n (not_64 x) p) (sym (number_shown n listed).number ∙ e))
+    either client_meets (c, x) (λ o. (shown (frames.answer_octets o.result o.octets)).number ≢ number LineMalformed)
+    (λ n listed p e. eqb_no (number_in (λ n. not (eqb n (number LineMalformed))) (call_rules c x) n (not_64 x) p) (sym (number_shown n listed).number ∙ e))
     (λ o p e. let z = (outcome_in (λ o. Accepted line (carrying.show (c, l) o)) (call_rules c x) o (shows_accepted c l x) p).1 in omega arith)
   where
-    not_64 : (x : Call) → T (numbered (λ n. not (eqb n line_malformed)) (call_rules c x))
+    not_64 : (x : Call) → T (each_number (λ n. not (eqb n (number LineMalformed))) (call_rules c x))
     not_64 (ask x) = tt
     not_64 (arrival x) = tt
     not_64 (give_up x) = tt
 
 -- it is given exactly to a line that carries no call
-pub only_malformed : (c : Client) (l : List ℕ) (x : Parsed) → ((shown (frames.reply_to calls.step c x).octets).number ≡ line_malformed) ↔ (x ≡ malformed)
-only_malformed c l (call x) = (λ e. absurd (call_not c l x e), λ e. let z : ◌≡◌ {A = ℕ} 0 1 = cc in absurd (omega arith))
-only_malformed c l malformed = (λ e. refl, λ e. refl)
+pub only_malformed : (c : Client) (l : List ℕ) (x : Option Call) → ((shown (frames.reply_to calls.step c x).octets).number ≡ number LineMalformed) ↔ (x ≡ None)
+only_malformed c l (Some x) = (λ e. absurd (call_not c l x e), λ e. let z : ◌≡◌ {A = ℕ} 0 1 = cc in absurd (omega arith))
+only_malformed c l None = (λ e. refl, λ e. refl)

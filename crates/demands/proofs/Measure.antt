@@ -1,14 +1,15 @@
 -- The arithmetic of four timestamps meets its form.
+use Rattle.refusals.specs.Given.{numbered}
+use Rattle.offset.specs.declared.Measurement.{Measurement}
 use Prim.Native.Nat.{◌^◌}
 use mathlib.Core.Path.{refl}
 use native.Mathlib.Omega.{arith}
 use lib.IntN.{ℤ, pos}
 use lib.Signed.{lt_z, ◌≤ℤ◌}
 use Rattle.arithmetic.proofs.Integers.{integers}
-use Rattle.refusals.specs.Numbers.{arrived_before_sent, arrived_too_late, answered_before_received, delay_negative, first_below_second, no_order}
-use Rattle.ordered_tests.specs.Tests.{Tests, ◌if◌else◌, answer_of}
+use Rattle.refusals.specs.declared.Refusal.TheVariants.{ArrivedBeforeSent, ArrivedTooLate, AnsweredBeforeReceived, DelayNegative, FirstBelowSecond, NoOrder}
+use Rattle.ordered_tests.specs.Tests.{Tests, ◌if◌else◌}
 use Rattle.timestamp.specs.Timestamp.{constants, ◌since◌, has_no_order, negative}
-use Rattle.offset.specs.declared.OffsetAnswer.{OffsetAnswer}
 use Rattle.offset.specs.Offset.{offset_tests, measured}
 use Rattle.demands.specs.Form.{Rules}
 use Rattle.demands.specs.Measure.{Four, P, Q, d, four_rules, measure, ours}
@@ -25,15 +26,15 @@ at_most z limit = record { to = λ h. omega (arith, integers); from = λ t. omeg
 -- the nine tests, before any rest
 pub four_rows : {A O : Type 0} {say : A → O} {t : Tests A} {r : Rules O} (x : Four) → Reflects say t r
     → Reflects say
-    (no_order if has_no_order (x.t4 since x.t1) else
-    arrived_before_sent if negative (x.t4 since x.t1) else
-    arrived_too_late if lt_z constants.limit (x.t4 since x.t1) else
-    no_order if has_no_order (x.t3 since x.t2) else
-    answered_before_received if negative (x.t3 since x.t2) else
-    delay_negative if negative (d x) else
-    no_order if has_no_order (P x) else
-    no_order if has_no_order (Q x) else
-    first_below_second if lt_z (P x) (Q x) else
+    (NoOrder if has_no_order (x.t4 since x.t1) else
+    ArrivedBeforeSent if negative (x.t4 since x.t1) else
+    ArrivedTooLate if lt_z constants.limit (x.t4 since x.t1) else
+    NoOrder if has_no_order (x.t3 since x.t2) else
+    AnsweredBeforeReceived if negative (x.t3 since x.t2) else
+    DelayNegative if negative (d x) else
+    NoOrder if has_no_order (P x) else
+    NoOrder if has_no_order (Q x) else
+    FirstBelowSecond if lt_z (P x) (Q x) else
     t) (four_rules x r)
 four_rows x rest =
     in_order (x.t4 since x.t1)
@@ -47,14 +48,14 @@ four_rows x rest =
     and at_most (Q x) (P x)
     and rest
 
-abbrev table : Four → Tests OffsetAnswer
+abbrev table : Four → Tests Measurement
 table x = offset_tests (x.t4 since x.t1) (x.t3 since x.t2) (P x) (Q x)
 
 pub measure_meets : Meets measure ours
 unfolding measured offset_tests
 measure_meets = record {
-  proper = record { numbers = λ x. tt; refusals = λ x n l. by 3 n; others = λ x. acceptance_shown };
-  answers = table_answers measure ours table (λ x. answer_of OffsetAnswer.Refused) (record {
+  proper = record { refusals = λ x n l. by 3 n; others = λ x. acceptance_shown };
+  answers = table_answers measure ours table (λ x. numbered) (record {
     is = λ x. refl;
     refusing = λ x n. refl;
     reflects = λ x. four_rows x (end refl);

@@ -1,5 +1,6 @@
 -- The broadcast packet of our writer is accepted, and what its client answers is the true difference less the time on the way.
-use Prim.Native.Nat.{ℕ, ◌^◌, ◌≤◌, ◌<◌}
+use Rattle.refusals.specs.Given.{answered}
+use Prim.Native.Nat.{◌^◌, ◌≤◌, ◌<◌}
 use mathlib.Core.Path.{◌≡◌, refl, sym, ap, subst, ◌∙◌}
 use mathlib.Core.Logic.{◌≢◌}
 use mathlib.Core.Bool.{Bool, not}
@@ -17,14 +18,11 @@ use Rattle.timestamp.specs.Timestamp.{is_zero, ◌since◌}
 use Rattle.packet.specs.declared.Fields.{Fields}
 use Rattle.packet.specs.Packet.{fields_of, octets_of}
 use Rattle.packet.proofs.Packet.{length_octets_of}
-use Rattle.packet.specs.declared.WriteAnswer.{WriteAnswer}
-use Rattle.server_packet.specs.declared.Message.{Message}
 use Rattle.server_packet.specs.Packet.{synchronised_fields, packet_fields}
-use Rattle.broadcast.specs.declared.BroadcastAnswer.{BroadcastAnswer}
 use Rattle.broadcast.specs.Broadcast.{broadcast_message}
-use Rattle.demands.specs.Common.{not_available, InOrder, Written}
+use Rattle.demands.specs.Common.{not_available, InOrder}
 use Rattle.demands.specs.Broadcast.{Broadcast, broadcast_fields}
-use Rattle.demands.specs.Behaviour.{broadcast, broadcast_arrival, ours}
+use Rattle.demands.specs.Behaviour.{broadcast_arrival, ours}
 use Rattle.clocks.specs.Exchange.{longest_trip, reading}
 use Rattle.demands.specs.OneWay.{broadcast_clocks_apart, OneWay, T3, T4, true_difference, travelled, Orderly, Run, the_write, the_arrival, Premises, Conclusions, BroadcastDifference, across, slowest, fastest, run_of, OneWayWitnesses}
 use Rattle.demands.proofs.Facts.{of_48}
@@ -88,7 +86,7 @@ module _ (r : Run) (p : Premises ours r) where
   unfolding packet_fields
   octets_are = rw p.synchronised
 
-  write_is : the_write ours r ≡ record { answer = WriteAnswer.Written; octets = octets_of (broadcast_fields x) ++ drop 48 r.buffer }
+  write_is : the_write ours r ≡ record { answer = answered tt; octets = octets_of (broadcast_fields x) ++ drop 48 r.buffer }
   write_is = done_so broadcast_meets x _ (p.room, (p.version, (p.set, (p.poll, ((λ e. p.orderly.nonzero.0), refl)))))
 
   packet_is : take 48 (the_write ours r).octets ≡ octets_of said
@@ -101,12 +99,12 @@ module _ (r : Run) (p : Premises ours r) where
       (let v = p.version.1 in omega arith) (omega arith) (let q = p.poll.1 in omega arith) (omega arith)
       (let l = p.set.leap in omega arith) (omega arith) (omega arith) (reading_below r.way.server r.way.sent)
 
-  arrival_is : the_arrival ours r ≡ BroadcastAnswer.Difference (T3 r.way since T4 r.way)
+  arrival_is : the_arrival ours r ≡ answered (T3 r.way since T4 r.way)
   arrival_is =
       (λ i. ours.does broadcast_arrival (record { packet = packet_is i; t4 = T4 r.way }))
-      ∙ done_so broadcast_arrival_meets (record { packet = octets_of said; t4 = T4 r.way }) (BroadcastAnswer.Difference ((fields_of (octets_of said)).transmit since T4 r.way))
+      ∙ done_so broadcast_arrival_meets (record { packet = octets_of said; t4 = T4 r.way }) (answered ((fields_of (octets_of said)).transmit since T4 r.way))
       (of_48 (octets_of said) (length_octets_of said), (ap (λ f. f.mode) of_packet, (version_in, (leap_not, (stratum_in, (transmit_not, (p.orderly.nonzero.1, (in_order, refl))))))))
-      ∙ ap (λ f. BroadcastAnswer.Difference (f.transmit since T4 r.way)) of_packet
+      ∙ ap (λ f. answered (f.transmit since T4 r.way)) of_packet
     where
       version_in : (1 ≤ (fields_of (octets_of said)).version) × ((fields_of (octets_of said)).version ≤ 4)
       version_in = subst (λ f. (1 ≤ f.version) × (f.version ≤ 4)) (sym of_packet) p.version
@@ -126,7 +124,7 @@ module _ (r : Run) (p : Premises ours r) where
   concluded : Conclusions ours r
   concluded = record {
     written = ap (λ w. w.answer) write_is;
-    result = arrival_is ∙ ap BroadcastAnswer.Difference (difference_is r.way p.orderly);
+    result = arrival_is ∙ ap answered (difference_is r.way p.orderly);
   }
 
 pub broadcast_difference : BroadcastDifference ours

@@ -1,13 +1,16 @@
 -- The server's reply meets its form.
+use Rattle.refusals.specs.Given.{Given}
+use Rattle.refusals.specs.Given.{numbered}
+use Rattle.std.specs.Prelude.{Result}
+use Rattle.refusals.specs.declared.Refusal.{Refusal}
 use mathlib.Core.Path.{refl}
 use mathlib.Core.List.{◌++◌}
 use lib.IntN.{pos, neg_ℤ}
 use lib.ListN.{length, drop}
-use Rattle.ordered_tests.specs.Tests.{Tests, Given, answer_of, kept_of}
+use Rattle.ordered_tests.specs.Tests.{Tests, kept_of}
 use Rattle.timestamp.specs.Timestamp.{◌since◌}
 use Rattle.packet.specs.Packet.{fields_of, octets_of}
 use Rattle.server_packet.specs.declared.Settings.{Settings}
-use Rattle.server.specs.declared.ReplyAnswer.{ReplyAnswer}
 use Rattle.server_packet.specs.Packet.{out_of_range}
 use Rattle.server.specs.Server.{request_tests, reply_tests, reply_fields, replied, replied_buffer}
 use Rattle.demands.specs.Common.{Written}
@@ -17,12 +20,12 @@ use Rattle.demands.proofs.Facts.{available, in_order, packet}
 use Rattle.demands.proofs.Form.{Meets, ◌and◌, end, by, acceptance_shown, table_answers}
 use Rattle.demands.proofs.Measure.{not_negative, at_most}
 
-abbrev table : Request → Tests ReplyAnswer
+abbrev table : Request → Tests (Unit {0})
 table x = reply_tests x.settings x.request x.t2 x.t3 x.buffer
 
-abbrev make : Request → Given ReplyAnswer → Written ReplyAnswer
+abbrev make : Request → Result (Unit {0}) Refusal → Written (Given (Unit {0}))
 make x g = record {
-  answer = answer_of ReplyAnswer.Refused g;
+  answer = numbered g;
   octets = kept_of g x.buffer (octets_of (reply_fields x.settings (fields_of x.request) x.t2 x.t3) ++ drop 48 x.buffer);
 }
 
@@ -38,7 +41,7 @@ legally_set s =
 pub reply_meets : Meets reply ours
 unfolding replied replied_buffer reply_tests request_tests
 reply_meets = record {
-  proper = record { numbers = λ x. tt; refusals = λ x n l. by 0 n; others = λ x. acceptance_shown };
+  proper = record { refusals = λ x n l. by 0 n; others = λ x. acceptance_shown };
   answers = table_answers reply ours table make (record {
     is = λ x. refl;
     refusing = λ x n. refl;

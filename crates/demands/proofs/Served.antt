@@ -1,4 +1,7 @@
 -- An ask, our server's reply to the 48 octets that it wrote, and what the record that waits for it finds in that reply.
+use Rattle.refusals.specs.Given.{Given}
+use Rattle.refusals.specs.Given.{answered}
+use Rattle.ordered_tests.specs.Tests.{given}
 use mathlib.Core.Path.{◌≡◌, refl, sym, ap, subst, ◌∙◌}
 use mathlib.Core.Logic.{◌≢◌, inr}
 use mathlib.Core.Bool.{Bool, true}
@@ -27,13 +30,10 @@ use Rattle.request.specs.Request.{request, request_fields}
 use Rattle.client.specs.Ask.{waiting_for}
 use Rattle.request.proofs.Request.{request_octets}
 use Rattle.server_packet.specs.declared.Settings.{Settings}
-use Rattle.server.specs.declared.ReplyAnswer.{ReplyAnswer}
 use Rattle.server_packet.specs.declared.Message.{Message}
-use Rattle.server_packet.specs.Packet.{packet_with}
 use Rattle.server.specs.Server.{reply_message, reply_fields}
 use Rattle.client.specs.Calls as calls
 use Rattle.client.specs.Calls.{ask, Outcome}
-use Rattle.ordered_tests.specs.Tests.{Given}
 use Rattle.demands.specs.Form.{refusal, Rules, Gives}
 use Rattle.demands.specs.Common.{not_available, no_token, IsPacket, Written, InOrder}
 use Rattle.demands.specs.Legal.{Legal}
@@ -118,6 +118,24 @@ typed_is f id rf =
       transmit = f.transmit;
     }
 
+-- the fields of a packet, of which those that depend on whether the server is synchronised are given
+abbrev packet_with : Settings → Message → (leap stratum identifier : ℕ) → (reference receive transmit : Timestamp) → Fields
+packet_with s m leap stratum identifier reference receive transmit = record {
+  leap = leap;
+  version = m.version;
+  mode = m.mode;
+  stratum = stratum;
+  poll = m.poll;
+  precision = s.precision;
+  root_delay = pos 0;
+  root_dispersion = 0;
+  identifier = identifier;
+  reference = reference;
+  originate = m.originate;
+  receive = receive;
+  transmit = transmit;
+}
+
 -- a packet of the server is read back as its fields
 pub packet_fields_lem : (s : Settings) → LegallySet s → (m : Message) (leap stratum identifier : ℕ) (reference receive transmit : Timestamp)
     → m.version ≤ 7 → m.mode ≤ 7 → m.poll < 2 ^ 8 → m.originate.0 < 2 ^ 64 → leap ≤ 3 → stratum < 2 ^ 8 → receive.0 < 2 ^ 64 → transmit.0 < 2 ^ 64
@@ -187,7 +205,7 @@ module _ {c : Client} {x : calls.Ask} {s : Settings} {t2 t3 : Timestamp} {buffer
   abbrev asking : List ℕ
   asking = request x.version x.token
 
-  abbrev pub the_reply : Written ReplyAnswer
+  abbrev pub the_reply : Written (Given (Unit {0}))
   the_reply = ours.does reply (to (take 48 (ours.does client (c, ask x)).octets))
 
   sent : take 48 (ours.does client (c, ask x)).octets ≡ asking
@@ -222,7 +240,7 @@ module _ {c : Client} {x : calls.Ask} {s : Settings} {t2 t3 : Timestamp} {buffer
       )
 
   -- it is written, and its 48 octets are those of its fields
-  pub reply_written : the_reply.answer ≡ ReplyAnswer.Written
+  pub reply_written : the_reply.answer ≡ answered tt
   reply_written = ap (λ w. w.answer) reply_is
 
   pub reply_octets : take 48 the_reply.octets ≡ octets_of (reply_fields s (request_fields x.version x.token) t2 t3)

@@ -2,7 +2,7 @@
 use Prim.Native.Nat.{ℕ, ◌<◌}
 use mathlib.Core.Path.{◌≡◌, refl, sym, ap, subst}
 use mathlib.Core.Logic.{◌≢◌, ◌⊎◌, inl, inr}
-use mathlib.Core.Bool.{Bool, true, false, cond}
+use mathlib.Core.Bool.{Bool, true, false}
 use mathlib.Core.List.{List, [], ◌∷◌}
 use native.Mathlib.Omega.{arith}
 use borrow.Author.Tests.{eqb-true, eqb-false}
@@ -21,14 +21,14 @@ use Rattle.client.specs.Record.{fresh, illegal}
 use Rattle.client.specs.Ask.{ask_tests, after_ask}
 use Rattle.client.specs.Arrival.{arrival_answer, arrived}
 use Rattle.client.specs.Calls as calls
-use Rattle.association_rules.specs.declared.Alternate.{Alternate}
-use Rattle.association_rules.specs.Associations.{any_illegal, association, first_running, alternate, asked_for, list_after_ask, arrived_for, list_after_arrival}
+use Rattle.std.specs.Prelude.{Option, Some, None}
+use Rattle.association_rules.specs.Associations.{any_illegal, first_running, alternate, asked_for, list_after_ask, arrived_for, list_after_arrival}
 use Rattle.association_rules.specs.InUse.{outside, exists}
 use Rattle.association_rules.proofs.Alternates.{alternates}
 use Rattle.demands.specs.Client.{call_rules}
 use Rattle.demands.specs.Behaviour.{ours}
 use Rattle.demands.specs.Associations.{ListCall, ask, arrival, give_up, InList, AllLegal, use_after, client_call, placed, at_record}
-use Rattle.demands.specs.Demand3List.{Associations, Numbered, given, does, left, after}
+use Rattle.demands.specs.Demand3List.{Associations, Numbered, given, does, left}
 use Rattle.demands.specs.SeveralServers.{Runs, OneRuns, UseRuns, Worked}
 use Rattle.demands.specs.SingleServer.{NoAlternate}
 use Rattle.demands.proofs.Form.{Passes, either, unmapped}
@@ -66,7 +66,7 @@ module _ (list : List Client) (at : ℕ) (next : Client) where
   )
 
 -- where there is no alternate, the client's call leaves a record that is not stopped
-alone_runs : (c : Client) (a : Alternate) (x : ListCall) (o : calls.Outcome) → a ≡ Alternate.None → Passes (call_rules c (client_call (exists a) x)) o → single.Runs o
+alone_runs : (c : Client) (a : Option ℕ) (x : ListCall) (o : calls.Outcome) → a ≡ None → Passes (call_rules c (client_call (exists a) x)) o → single.Runs o
 alone_runs c a x o e p = passing_runs c (client_call (exists a) x) o (alone x) p
   where
     alone : (x : ListCall) → NoAlternate (client_call (exists a) x)
@@ -75,7 +75,7 @@ alone_runs c a x o e p = passing_runs c (client_call (exists a) x) o (alone x) p
     alone (give_up x) = tt
 
 -- an alternate is another record, and is not stopped
-alternate_runs : (list : List Client) (at i : ℕ) → alternate list at ≡ Alternate.Record i → at < length list → (i ≢ at) × Runs list i
+alternate_runs : (list : List Client) (at i : ℕ) → alternate list at ≡ Some i → at < length list → (i ≢ at) × Runs list i
 alternate_runs list at i e inside =
     let (below, other) = alternates.in_list list at i e inside in
     (other, (below, (alternates.found list at i e).runs))
@@ -86,9 +86,9 @@ one_kept : (s : Associations) (x : Numbered) (i : ℕ) → Runs s.list i → (j 
 one_kept s x i runs = stepped s x (λ t. (j : ℕ) × Runs t.list j) (i, runs) (λ o in_list legal p. go o in_list p (alternate s.list x.at) refl)
   where
     go : (o : calls.Outcome) → InList s.list x.at s.in_use → Passes (call_rules (at_record (given ours s x)).0 (at_record (given ours s x)).1) o
-        → (a : Alternate) → alternate s.list x.at ≡ a → (j : ℕ) × Runs (set s.list x.at o.next) j
-    go o in_list p Alternate.None e = (x.at, stored_runs s.list x.at o.next in_list.2 (alone_runs _ (alternate s.list x.at) x.call o e p))
-    go o in_list p (Alternate.Record j) e =
+        → (a : Option ℕ) → alternate s.list x.at ≡ a → (j : ℕ) × Runs (set s.list x.at o.next) j
+    go o in_list p None e = (x.at, stored_runs s.list x.at o.next in_list.2 (alone_runs _ (alternate s.list x.at) x.call o e p))
+    go o in_list p (Some j) e =
         let (other, runs) = alternate_runs s.list x.at j e in_list.2 in
         (j, other_runs s.list x.at o.next j other runs)
 
@@ -99,7 +99,7 @@ one_runs s (x ∷ xs) i runs = let (j, still) = one_kept s x i runs in one_runs 
 -- ---- the record in use is not stopped
 
 -- a call that leaves its record stopped tells a kiss
-abbrev IsKiss : calls.Result → Type 0
+abbrev IsKiss : calls.Told → Type 0
 IsKiss r = (code : ℕ) × (row : ℕ) × (r ≡ calls.kiss code row)
 
 kiss_or_runs : (c : Client) (x : calls.Call) (o : calls.Outcome) → Passes (call_rules c x) o → IsKiss o.result ⊎ single.Runs o
@@ -109,20 +109,20 @@ kiss_or_runs c (calls.arrival x) o (_, (_, (_, (_, (_, (_, inr (_, (_, (_, (_, (
 kiss_or_runs c (calls.give_up x) o (_, (_, (_, e))) = inr (subst single.Runs e idle_runs)
 
 -- use stays where there is no alternate, or where another record was kissed
-use_stays : (r : calls.Result) (at in_use : ℕ) → use_after r Alternate.None at in_use ≡ in_use
+use_stays : (r : calls.Told) (at in_use : ℕ) → use_after r None at in_use ≡ in_use
 use_stays (calls.refused n) at in_use = refl
 use_stays calls.done at in_use = refl
 use_stays (calls.accepted offset half delay) at in_use = refl
 use_stays (calls.kiss code row) at in_use = refl
 
-use_stays_other : (r : calls.Result) (j at in_use : ℕ) → eqb at in_use ≡ false → use_after r (Alternate.Record j) at in_use ≡ in_use
+use_stays_other : (r : calls.Told) (j at in_use : ℕ) → eqb at in_use ≡ false → use_after r (Some j) at in_use ≡ in_use
 use_stays_other (calls.refused n) j at in_use e = refl
 use_stays_other calls.done j at in_use e = refl
 use_stays_other (calls.accepted offset half delay) j at in_use e = refl
 use_stays_other (calls.kiss code row) j at in_use e = rw e refl
 
 -- where the record in use was called and an alternate exists, use is at one of the two, and at the alternate after a kiss
-use_moves : (r : calls.Result) (P : ℕ → Type 0) (j at in_use : ℕ) → eqb at in_use ≡ true → P j → (IsKiss r ⊎ P in_use) → P (use_after r (Alternate.Record j) at in_use)
+use_moves : (r : calls.Told) (P : ℕ → Type 0) (j at in_use : ℕ) → eqb at in_use ≡ true → P j → (IsKiss r ⊎ P in_use) → P (use_after r (Some j) at in_use)
 use_moves (calls.refused n) P j at in_use e alternate (inl (code, row, k)) = let z : ◌≡◌ {A = ℕ} 0 1 = cc in absurd (omega arith)
 use_moves (calls.refused n) P j at in_use e alternate (inr p) = p
 use_moves calls.done P j at in_use e alternate (inl (code, row, k)) = let z : ◌≡◌ {A = ℕ} 0 1 = cc in absurd (omega arith)
@@ -135,17 +135,17 @@ use_kept : (s : Associations) (x : Numbered) → Runs s.list s.in_use → Runs (
 use_kept s x runs = stepped s x (λ t. Runs t.list t.in_use) runs (λ o in_list legal p. go o in_list p (alternate s.list x.at) refl (eqb x.at s.in_use) refl)
   where
     go : (o : calls.Outcome) → InList s.list x.at s.in_use → Passes (call_rules (at_record (given ours s x)).0 (at_record (given ours s x)).1) o
-        → (a : Alternate) → alternate s.list x.at ≡ a → (b : Bool) → eqb x.at s.in_use ≡ b
+        → (a : Option ℕ) → alternate s.list x.at ≡ a → (b : Bool) → eqb x.at s.in_use ≡ b
         → Runs (set s.list x.at o.next) (use_after o.result (alternate s.list x.at) x.at s.in_use)
-    go o in_list p Alternate.None e true same =
+    go o in_list p None e true same =
         rw (e, use_stays) (subst (Runs (set s.list x.at o.next)) (eqb-true x.at s.in_use same)
         (stored_runs s.list x.at o.next in_list.2 (alone_runs _ (alternate s.list x.at) x.call o e p)))
-    go o in_list p Alternate.None e false differs =
+    go o in_list p None e false differs =
         rw (e, use_stays) (other_runs s.list x.at o.next s.in_use (λ q. eqb-false x.at s.in_use differs (sym q)) runs)
-    go o in_list p (Alternate.Record j) e false differs =
+    go o in_list p (Some j) e false differs =
         rw (e, use_stays_other o.result j x.at s.in_use differs)
         (other_runs s.list x.at o.next s.in_use (λ q. eqb-false x.at s.in_use differs (sym q)) runs)
-    go o in_list p (Alternate.Record j) e true same =
+    go o in_list p (Some j) e true same =
         let (other, alternate-is) = alternate_runs s.list x.at j e in_list.2 in
         rw e (use_moves o.result (Runs (set s.list x.at o.next)) j x.at s.in_use same
         (other_runs s.list x.at o.next j other alternate-is)

@@ -4,8 +4,8 @@ use mathlib.Core.Path.{◌≡◌}
 use mathlib.Core.Logic.{◌⊎◌, inl, inr}
 use native.Mathlib.Decide.{dec_lt}
 use native.Mathlib.Omega.{arith}
-use lib.IntN.{ℤ, pos, ◌-ℤ◌}
-use Rattle.arithmetic.proofs.Integers.{up, dn, integers, integers_eq, minus, neg}
+use lib.IntN.{pos, ◌-ℤ◌}
+use Rattle.arithmetic.proofs.Integers.{up, dn, integers, integers_eq, minus}
 use Rattle.arithmetic.proofs.Modulo.{Congruent, near}
 use Rattle.timestamp.specs.Timestamp.{◌since◌}
 use Rattle.timestamp.proofs.Order.{congruent, fits}

@@ -1,8 +1,8 @@
 -- While no alternate exists, a client that is not stopped never stops.
-use mathlib.Core.Path.{◌≡◌, sym, subst}
+use mathlib.Core.Path.{sym, subst}
 use mathlib.Core.Logic.{◌≢◌, inl, inr}
 use mathlib.Core.Bool.{cond, not}
-use mathlib.Core.List.{List, [], ◌∷◌}
+use mathlib.Core.List.{[], ◌∷◌}
 use Prim.Native.Nat.{suc, min}
 use lib.Dec.{T}
 use Rattle.client.specs.declared.Client.{Client}
@@ -11,7 +11,7 @@ use Rattle.client.specs.Record.{is_stopped, without_request}
 use Rattle.client.specs.Calls.{Call, ask, arrival, give_up, Outcome}
 use Rattle.demands.specs.Client.{call_rules}
 use Rattle.demands.specs.Behaviour.{client, ours}
-use Rattle.demands.specs.SingleServer.{NoAlternate, NoAlternates, NeverStops}
+use Rattle.demands.specs.SingleServer.{NoAlternate, NeverStops}
 use Rattle.demands.proofs.Form.{Passes, either}
 use Rattle.demands.proofs.Client.{client_meets}
 

@@ -1,4 +1,6 @@
 -- Demand 3 for clocks that tick holds of ours: the server answers the request, and the client that still waits accepts the reply, or refuses it by 18.
+use Rattle.refusals.specs.Given.{Given, refused, answered}
+use Rattle.ordered_tests.specs.Tests.{given}
 use mathlib.Core.Path.{◌≡◌, refl, sym, ap, subst, ◌∙◌}
 use mathlib.Core.Logic.{◌⊎◌, ⊎_map, inl, inr}
 use Prim.Native.Nat.{ℕ, ◌^◌, ◌<◌}
@@ -6,9 +8,10 @@ use native.Mathlib.Decide.{dec_lt}
 use native.Mathlib.Omega.{arith}
 use lib.IntN.{ℤ, pos, nat_abs, ◌+ℤ◌}
 use lib.Signed.{◌≤ℤ◌}
+use Rattle.refusals.specs.Numbers.{number}
+use Rattle.refusals.specs.declared.Refusal.TheVariants.{DelayNegative}
 use Rattle.arithmetic.proofs.Integers.{up, dn, integers}
-use Rattle.refusals.specs.Numbers.{delay_negative}
-use Rattle.ordered_tests.specs.Tests.{Given, refused, answered}
+use Rattle.refusals.specs.declared.Refusal.TheVariants.{DelayNegative}
 use Rattle.timestamp.specs.Timestamp.{◌since◌}
 use Rattle.offset.proofs.Halving.{halving}
 use Rattle.clocks.specs.Exchange.{Exchange}
@@ -49,7 +52,7 @@ module _ (m n : ℕ) (e : Exchange) (orderly : Orderly m n e) where
       (ordered (four.t4 since four.t1) k.trip_small, ordered (four.t3 since four.t2) k.hold_small, ordered (P four) k.first_small, ordered (Q four) k.second_small)
 
   -- every rule of the four readings holds but for 18
-  but_18 : {O : Type 0} (o : O) (g : Given O) → Gives (delay_negative unless pos 0 ≤ℤ d four then does o) g → Gives (four_rules four (does o)) g
+  but_18 : {O : Type 0} (o : O) (g : Given O) → Gives (DelayNegative unless pos 0 ≤ℤ d four then does o) g → Gives (four_rules four (does o)) g
   but_18 o g given =
       let k = timely m n e orderly in
       let (trip, hold, first, second) = all_in_order in
@@ -99,7 +102,7 @@ module _ (m n : ℕ) (r : Run) (p : Premises m n ours r) where
   abbrev with : Fields → Four
   with f = record { t1 = t.t1; t2 = f.receive; t3 = f.transmit; t4 = t.t4 }
 
-  gives : (g : Given Outcome) → Gives (delay_negative unless pos 0 ≤ℤ d t then does (accepted w y)) g → Gives (arrival_rules w y) g
+  gives : (g : Given Outcome) → Gives (DelayNegative unless pos 0 ≤ℤ d t then does (accepted w y)) g → Gives (arrival_rules w y) g
   gives g given = matched served said t.t4 r.alternate (sanity_rules w y) g of_reply refl refl refl (inr (
     (λ z. let q = ap (λ f. f.stratum) of_reply in omega arith),
     inr (
@@ -129,13 +132,13 @@ module _ (m n : ℕ) (r : Run) (p : Premises m n ours r) where
   arriving_is : reply_arriving ours t r ≡ (w, arrival y)
   arriving_is = λ i. (after_is i, arrival (record { packet = (reply_octets served ∙ octets_are) i; t4 = t.t4; alternate = r.alternate }))
 
-  arrival_is : (g : Given Outcome) → Gives (delay_negative unless pos 0 ≤ℤ d t then does (accepted w y)) g → ours.does client (reply_arriving ours t r) ≡ outcome (form client) (w, arrival y) g
+  arrival_is : (g : Given Outcome) → Gives (DelayNegative unless pos 0 ≤ℤ d t then does (accepted w y)) g → ours.does client (reply_arriving ours t r) ≡ outcome (form client) (w, arrival y) g
   arrival_is g given = ap (ours.does client) arriving_is ∙ does_it client_meets.answers (w, arrival y) g (gives g given)
 
   reply : Dec (up (d t) < dn (d t)) → TooShort m n ours r ⊎ Accepted m n ours r
   reply (yes l) = inl (record {
     negative = omega (arith, integers);
-    reply = arrival_is (refused delay_negative) (inl ((λ h. omega (arith, integers)), refl)) ∙ sym (ap (λ (i : Client × Call). (form client).refusing i delay_negative) arriving_is);
+    reply = arrival_is (refused (number DelayNegative)) (inl ((λ h. omega (arith, integers)), refl)) ∙ sym (ap (λ (i : Client × Call). (form client).refusing i (number DelayNegative)) arriving_is);
   })
   reply (no f) = inr (record {
     offset = offset t;

@@ -1,12 +1,10 @@
 -- Unix times of timestamps and timestamps of Unix times meet their forms.
+use Rattle.refusals.specs.Given.{numbered}
 use Prim.Native.Nat.{◌^◌}
 use mathlib.Core.Path.{refl}
 use lib.IntN.{ℤ, pos, negsuc}
 use lib.Signed.{le_z, ◌≤ℤ◌}
-use Rattle.ordered_tests.specs.Tests.{answer_of}
-use Rattle.calendar.specs.declared.TimestampAnswer.{TimestampAnswer}
 use Rattle.calendar.specs.Calendar.{window_start, window_end, in_window}
-use Rattle.unix_time.specs.declared.UnixTimeAnswer.{UnixTimeAnswer}
 use Rattle.unix_time.specs.UnixTime.{unix_time_tests, unix_time_of, from_year0, inside, timestamp_at, timestamp_tests, timestamp_of}
 use Rattle.demands.specs.UnixTime as unix
 use Rattle.demands.specs.UnixTime.{unix_time}
@@ -19,8 +17,8 @@ use Rattle.demands.proofs.Form.{Meets, ◌and◌, end, by, acceptance_shown, tab
 pub unix_time_meets : Meets unix_time unix.ours
 unfolding unix_time_of
 unix_time_meets = record {
-  proper = record { numbers = λ t. tt; refusals = λ t n l. by 2 n; others = λ t. acceptance_shown };
-  answers = table_answers unix_time unix.ours unix_time_tests (λ t. answer_of UnixTimeAnswer.Refused) (record {
+  proper = record { refusals = λ t n l. by 2 n; others = λ t. acceptance_shown };
+  answers = table_answers unix_time unix.ours unix_time_tests (λ t. numbered) (record {
     is = λ t. refl;
     refusing = λ t n. refl;
     reflects = λ t. available t and end refl;
@@ -39,8 +37,8 @@ window_tested (negsuc n) = record { to = λ w. w.0.le; from = λ t. absurd t }
 pub timestamp_of_unix_meets : Meets timestamp_of_unix back.ours
 unfolding timestamp_of
 timestamp_of_unix_meets = record {
-  proper = record { numbers = λ u. tt; refusals = λ u n l. by 1 n; others = λ u. acceptance_shown };
-  answers = table_answers timestamp_of_unix back.ours timestamp_tests (λ u. answer_of TimestampAnswer.Refused) (record {
+  proper = record { refusals = λ u n l. by 1 n; others = λ u. acceptance_shown };
+  answers = table_answers timestamp_of_unix back.ours timestamp_tests (λ u. numbered) (record {
     is = λ u. refl;
     refusing = λ u n. refl;
     reflects = λ u. below u.nanoseconds (10 ^ 9) and negated (window_tested (from_year0 u.seconds)) and available (timestamp_at u) and end refl;

@@ -1,7 +1,7 @@
 -- An extension field added at the end of a packet, which is the first octets of a buffer.
+use Rattle.refusals.specs.Given.{Given, refused, answered, numbered}
 use Rattle.std.specs.Prelude.{ℕ, ◌≤◌, ◌≡◌, List, [], ◌∷◌, pos, length, take, drop}
-use Rattle.refusals.specs.Numbers.{packet_length_wrong, field_not_added}
-use Rattle.extension_writer.specs.declared.AddAnswer.{AddAnswer}
+use Rattle.refusals.specs.declared.Refusal.TheVariants.{PacketLengthWrong, FieldNotAdded}
 use Rattle.extension_writer.specs.Writer.{new_length, added, with_field, added_buffer}
 use Rattle.demands.specs.Form.{Shown, refused_by, telling, Rules, ◌unless◌then◌, does, Form, Implementation}
 use Rattle.demands.specs.Common.{FieldsThen, IsPacket, Written}
@@ -13,9 +13,9 @@ pub record Add : Type 0 where
   pub field_type : ℕ
   pub body : List ℕ
 
-abbrev pub shown : AddAnswer → Shown
-shown (AddAnswer.Refused n) = refused_by 1 n
-shown (AddAnswer.Added new) = telling (pos new ∷ [])
+abbrev pub shown : Given ℕ → Shown
+shown (refused n) = refused_by 1 n
+shown (answered new) = telling (pos new ∷ [])
 
 module _ (x : Add) where
   abbrev packet : List ℕ
@@ -25,22 +25,22 @@ module _ (x : Add) where
   abbrev new : ℕ
   new = new_length x.size (length x.body)
 
-  abbrev pub add_rules : Rules (Written AddAnswer)
+  abbrev pub add_rules : Rules (Written (Given ℕ))
   add_rules =
-      packet_length_wrong unless x.size ≤ length x.buffer then
-      packet_length_wrong unless IsPacket packet then
-      field_not_added unless FieldsThen (λ left. left ≡ 0) (drop 48 packet) then
-      field_not_added unless (new ≤ length x.buffer) × (new ≤ 1024) then
-      does (record { answer = AddAnswer.Added new; octets = with_field x.buffer x.size x.field_type x.body })
+      PacketLengthWrong unless x.size ≤ length x.buffer then
+      PacketLengthWrong unless IsPacket packet then
+      FieldNotAdded unless FieldsThen (λ left. left ≡ 0) (drop 48 packet) then
+      FieldNotAdded unless (new ≤ length x.buffer) × (new ≤ 1024) then
+      does (record { answer = answered new; octets = with_field x.buffer x.size x.field_type x.body })
 
 abbrev pub add : Form
 add = record {
   Input = Add;
-  Outcome = Written AddAnswer;
+  Outcome = Written (Given ℕ);
   shown = λ o. shown o.answer;
-  refusing = λ x n. record { answer = AddAnswer.Refused n; octets = x.buffer };
+  refusing = λ x n. record { answer = refused n; octets = x.buffer };
   rules = add_rules;
 }
 
 abbrev pub ours : Implementation add
-ours x = record { answer = added x.buffer x.size x.body; octets = added_buffer x.buffer x.size x.field_type x.body }
+ours x = record { answer = numbered (added x.buffer x.size x.body); octets = added_buffer x.buffer x.size x.field_type x.body }

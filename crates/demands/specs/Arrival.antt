@@ -1,6 +1,6 @@
 -- An arrival at the client: a packet, the reading T4, and whether an alternate server exists.
 use Rattle.std.specs.Prelude.{suc, min, ◌≤◌, ◌<◌, ◌≡◌, ◌≢◌, cond, pos, ◌≤ℤ◌, ◌<ℤ◌}
-use Rattle.refusals.specs.Numbers.{record_not_legal, packet_length_wrong, not_waiting, originate_mismatch, reply_mode_wrong, version_mismatch, own_clock_zero, server_unsynchronised, stratum_too_high, server_timestamp_zero, root_delay_out_of_range, root_dispersion_too_large}
+use Rattle.refusals.specs.declared.Refusal.TheVariants.{RecordNotLegal, PacketLengthWrong, NotWaiting, OriginateMismatch, ReplyModeWrong, VersionMismatch, OwnClockZero, ServerUnsynchronised, StratumTooHigh, ServerTimestampZero, RootDelayOutOfRange, RootDispersionTooLarge}
 use Rattle.packet.specs.declared.Fields.{Fields}
 use Rattle.packet.specs.Packet.{fields_of}
 use Rattle.token.specs.Token.{carried}
@@ -35,24 +35,24 @@ module _ (c : Client) (x : calls.Arrival) where
   -- the packet answers the client's request; then the rest
   abbrev pub match_rules : Rules calls.Outcome → Rules calls.Outcome
   match_rules rest =
-      record_not_legal unless Legal c then
-      packet_length_wrong unless IsPacket x.packet then
-      not_waiting unless c.phase ≡ Waiting then
-      originate_mismatch unless f.originate ≡ carried c.token then
-      reply_mode_wrong unless f.mode ≡ 4 then
-      version_mismatch unless f.version ≡ c.version then
+      RecordNotLegal unless Legal c then
+      PacketLengthWrong unless IsPacket x.packet then
+      NotWaiting unless c.phase ≡ Waiting then
+      OriginateMismatch unless f.originate ≡ carried c.token then
+      ReplyModeWrong unless f.mode ≡ 4 then
+      VersionMismatch unless f.version ≡ c.version then
       rest
 
   -- it is a kiss, or passes the client's sanity checks
   abbrev pub sanity_rules : Rules calls.Outcome
   sanity_rules =
       kissed provided f.stratum ≡ 0 else
-      own_clock_zero unless x.t4 ≢ not_available then
-      server_unsynchronised unless f.leap ≢ 3 then
-      stratum_too_high unless f.stratum ≤ 15 then
-      server_timestamp_zero unless (f.receive ≢ not_available) × (f.transmit ≢ not_available) then
-      root_delay_out_of_range unless (pos 0 ≤ℤ f.root_delay) × (f.root_delay <ℤ pos 65536) then
-      root_dispersion_too_large unless f.root_dispersion < 65536 then
+      OwnClockZero unless x.t4 ≢ not_available then
+      ServerUnsynchronised unless f.leap ≢ 3 then
+      StratumTooHigh unless f.stratum ≤ 15 then
+      ServerTimestampZero unless (f.receive ≢ not_available) × (f.transmit ≢ not_available) then
+      RootDelayOutOfRange unless (pos 0 ≤ℤ f.root_delay) × (f.root_delay <ℤ pos 65536) then
+      RootDispersionTooLarge unless f.root_dispersion < 65536 then
       four_rules four (does accepted)
 
   abbrev pub arrival_rules : Rules calls.Outcome

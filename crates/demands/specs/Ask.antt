@@ -1,6 +1,6 @@
 -- An ask of the client.
 use Rattle.std.specs.Prelude.{◌+◌, ◌^◌, ◌≤◌, ◌≡◌, ◌≢◌, true, ◌++◌, length, drop}
-use Rattle.refusals.specs.Numbers.{record_not_legal, buffer_too_short, version_unsupported, own_clock_zero, token_zero, client_stopped, already_waiting, asked_too_soon}
+use Rattle.refusals.specs.declared.Refusal.TheVariants.{RecordNotLegal, BufferTooShort, VersionUnsupported, OwnClockZero, TokenZero, ClientStopped, AlreadyWaiting, AskedTooSoon}
 use Rattle.client.specs.declared.Client.{Client}
 use Rattle.client.specs.declared.Phase.TheVariants.{Waiting, Stopped}
 use Rattle.request.specs.Request.{request}
@@ -19,12 +19,12 @@ request_sent c x = record {
 
 abbrev pub ask_rules : Client → calls.Ask → Rules calls.Outcome
 ask_rules c x =
-    record_not_legal unless Legal c then
-    buffer_too_short unless 48 ≤ length x.buffer then
-    version_unsupported unless (1 ≤ x.version) × (x.version ≤ 4) then
-    own_clock_zero unless x.clock ≢ not_available then
-    token_zero unless x.token ≢ no_token then
-    client_stopped unless c.phase ≢ Stopped then
-    already_waiting unless c.phase ≢ Waiting then
-    asked_too_soon unless (c.asked ≡ true → c.uptime + 2 ^ c.exponent ≤ x.uptime) then
+    RecordNotLegal unless Legal c then
+    BufferTooShort unless 48 ≤ length x.buffer then
+    VersionUnsupported unless (1 ≤ x.version) × (x.version ≤ 4) then
+    OwnClockZero unless x.clock ≢ not_available then
+    TokenZero unless x.token ≢ no_token then
+    ClientStopped unless c.phase ≢ Stopped then
+    AlreadyWaiting unless c.phase ≢ Waiting then
+    AskedTooSoon unless (c.asked ≡ true → c.uptime + 2 ^ c.exponent ≤ x.uptime) then
     does (request_sent c x)

@@ -1,10 +1,10 @@
 -- A call for one of a gateway's associations: the client's call at that record, with 35 and 29 before it.
+use Rattle.std.specs.Prelude.{Option}
 use Rattle.std.specs.Prelude.{ℕ, ◌≤◌, ◌<◌, Bool, List, [], ◌∷◌, length, set}
-use Rattle.refusals.specs.Numbers.{not_in_list, record_not_legal}
+use Rattle.refusals.specs.declared.Refusal.TheVariants.{NotInList, RecordNotLegal}
 use Rattle.timestamp.specs.declared.Timestamp.{Timestamp}
 use Rattle.client.specs.declared.Client.{Client}
 use Rattle.client.specs.Calls as calls
-use Rattle.association_rules.specs.declared.Alternate.{Alternate}
 use Rattle.association_rules.specs.Associations.{association, alternate, asked_for, list_after_ask, buffer_after_ask, gave_up_for, list_after_give_up, arrived_for, list_after_arrival}
 use Rattle.association_rules.specs.InUse.{exists, use_after_kiss}
 use Rattle.demands.specs.Form.{◌unless◌then◌, Form, Implementation}
@@ -32,7 +32,7 @@ pub record ListInput : Type 0 where
   pub call : ListCall
 
 pub record ListOutcome : Type 0 where
-  pub result : calls.Result
+  pub result : calls.Told
   pub list : List Client
   pub in_use : ℕ
   pub octets : List ℕ
@@ -47,7 +47,7 @@ AllLegal [] = Unit {0}
 AllLegal (c ∷ rest) = Legal c × AllLegal rest
 
 -- use moves after a kiss alone
-abbrev pub use_after : calls.Result → Alternate → (at in_use : ℕ) → ℕ
+abbrev pub use_after : calls.Told → Option ℕ → (at in_use : ℕ) → ℕ
 use_after (calls.kiss code row) a at in_use = use_after_kiss a at in_use
 use_after (calls.refused n) a at in_use = in_use
 use_after calls.done a at in_use = in_use
@@ -84,8 +84,8 @@ associations = record {
   shown = λ o. shown o.result;
   refusing = λ i n. record { result = calls.refused n; list = i.list; in_use = i.in_use; octets = lent i.call };
   rules = λ i.
-      not_in_list unless InList i.list i.at i.in_use then
-      record_not_legal unless AllLegal i.list then
+      NotInList unless InList i.list i.at i.in_use then
+      RecordNotLegal unless AllLegal i.list then
       map_rules (placed i) (call_rules (at_record i).0 (at_record i).1);
 }
 

@@ -1,25 +1,26 @@
 -- The extension fields of a packet: where the first begins.
+use Rattle.refusals.specs.Given.{Given, refused, answered, numbered}
+use Rattle.extension.specs.declared.Cursor.{Cursor}
 use Rattle.std.specs.Prelude.{ℕ, List, [], ◌∷◌, pos}
-use Rattle.refusals.specs.Numbers.{packet_length_wrong}
-use Rattle.extension.specs.declared.BeginAnswer.{BeginAnswer}
+use Rattle.refusals.specs.declared.Refusal.TheVariants.{PacketLengthWrong}
 use Rattle.extension.specs.Reader.{cursor, begun}
 use Rattle.demands.specs.Form.{Shown, refused_by, telling, ◌unless◌then◌, does, Form, Implementation}
 use Rattle.demands.specs.Common.{IsPacket}
 
-abbrev pub shown : BeginAnswer → Shown
-shown (BeginAnswer.Refused n) = refused_by 1 n
-shown (BeginAnswer.Begun c) = telling (pos c.at ∷ [])
+abbrev pub shown : Given Cursor → Shown
+shown (refused n) = refused_by 1 n
+shown (answered c) = telling (pos c.at ∷ [])
 
 abbrev pub begin : Form
 begin = record {
   Input = List ℕ;
-  Outcome = BeginAnswer;
+  Outcome = Given Cursor;
   shown = shown;
-  refusing = λ p. BeginAnswer.Refused;
+  refusing = λ p. refused;
   rules = λ p.
-      packet_length_wrong unless IsPacket p then
-      does (BeginAnswer.Begun (cursor 48));
+      PacketLengthWrong unless IsPacket p then
+      does (answered (cursor 48));
 }
 
 abbrev pub ours : Implementation begin
-ours = begun
+ours p = numbered (begun p)

@@ -1,7 +1,7 @@
 -- The body of an extension field: the packet's octets from one index to another, as far as it has them. No call is refused.
 use Rattle.std.specs.Prelude.{ℕ, ◌-◌, List}
 use Rattle.arithmetic.specs.Octets.{part}
-use Rattle.ordered_tests.specs.Tests.{Given, refused, answered}
+use Rattle.refusals.specs.Given.{Given, refused, answered}
 use Rattle.demands.specs.Form.{Shown, refused_by, telling, does, Form, Implementation}
 use Rattle.demands.specs.Client.{numbers}
 

@@ -3,8 +3,8 @@ use Rattle.std.specs.Prelude.{ℕ, List, [], ◌∷◌, ℤ, pos}
 use Rattle.arithmetic.specs.Octets.{octets}
 use Rattle.client.specs.declared.Client.{Client}
 use Rattle.client.specs.Calls as calls
-use Rattle.client.specs.Calls.{Call, ask, arrival, give_up, lent, Result, Outcome}
-use Rattle.demands.specs.Form.{refusal, kiss, Shown, refused_by, telling, Rules, Form, Implementation}
+use Rattle.client.specs.Calls.{Call, ask, arrival, give_up, lent, Told, Outcome}
+use Rattle.demands.specs.Form.{kiss, Shown, refused_by, telling, Rules, Form, Implementation}
 use Rattle.demands.specs.Ask.{ask_rules}
 use Rattle.demands.specs.Arrival.{arrival_rules}
 use Rattle.demands.specs.GiveUp.{give_up_rules}
@@ -18,7 +18,7 @@ numbers (x ∷ xs) = pos x ∷ numbers xs
 abbrev values : ℤ → ℕ → ℤ → (row code : ℕ) → List ℤ
 values offset half delay row code = offset ∷ pos half ∷ delay ∷ pos row ∷ numbers (octets 4 code)
 
-abbrev pub shown : Result → Shown
+abbrev pub shown : Told → Shown
 shown (calls.refused n) = refused_by 8 n
 shown calls.done = telling (values (pos 0) 0 (pos 0) 0 0)
 shown (calls.accepted offset half delay) = telling (values offset half delay 0 0)

@@ -1,11 +1,14 @@
 -- What the rules of several calls speak of.
 use Rattle.std.specs.Prelude.{ℕ, ◌%◌, ◌^◌, ◌≤◌, ◌≡◌, ◌≢◌, ◌⊎◌, List, ℤ, nat_abs, length, drop}
+use Rattle.refusals.specs.Given.{Given, numbered}
 use Rattle.timestamp.specs.declared.Timestamp.{Timestamp}
 use Rattle.timestamp.specs.Timestamp.{constants}
 use Rattle.extension.specs.Tail.{Authenticator}
 use Rattle.extension.specs.Reading.{stated_length}
 use Rattle.token.specs.declared.Token.{Token}
 use Rattle.token.specs.Token.{token}
+use Rattle.ledger.specs.declared.Called.{Called}
+use Rattle.ledger.specs.declared.Ledger.{Ledger}
 
 -- the all-zero timestamp: "not available"
 abbrev pub not_available : Timestamp
@@ -48,3 +51,13 @@ pub record IsPacket (p : List ℕ) : Type 0 where
 pub record Written (A : Type 0) : Type 0 where
   pub answer : A
   pub octets : List ℕ
+
+-- ---- the ledger
+
+-- what a call of the ledger answers, and the next record
+pub record LedgerOutcome (A : Type 0) : Type 0 where
+  pub answer : Given A
+  pub ledger : Ledger
+
+abbrev pub ledger_outcome : {A : Type 0} → Called A → LedgerOutcome A
+ledger_outcome o = record { answer = numbered o.answer; ledger = o.ledger }

@@ -1,5 +1,7 @@
 -- Demand 3: between two clocks that run at the true rate, the reply to an ask is accepted whatever calls come in between, and the offset misses the
 -- true difference by at most half the delay.
+use Rattle.refusals.specs.Given.{answered}
+use Rattle.refusals.specs.Given.{Given}
 use Rattle.std.specs.Prelude.{ℕ, ◌+◌, ◌^◌, ◌≤◌, ◌<◌, ◌≡◌, ◌≢◌, Bool, true, List, [], ◌∷◌, T, ℤ, pos, nat_abs, ◌+ℤ◌, ◌-ℤ◌, length, take, ◌≤ℤ◌}
 use Rattle.refusals.specs.Numbers as numbers
 use Rattle.offset.specs.Halving.{twice}
@@ -10,7 +12,6 @@ use Rattle.packet.specs.Packet.{fields_of}
 use Rattle.client.specs.declared.Client.{Client}
 use Rattle.client.specs.Calls.{Call, ask, arrival, give_up, accepted, Outcome}
 use Rattle.server_packet.specs.declared.Settings.{Settings}
-use Rattle.server.specs.declared.ReplyAnswer.{ReplyAnswer}
 use Rattle.demands.specs.Form.{refusal}
 use Rattle.demands.specs.Common.{IsPacket, Written}
 use Rattle.demands.specs.Measure.{Four, d}
@@ -66,7 +67,7 @@ module _ (b : Behaviour) where
     abbrev pub the_ask : Outcome
     the_ask = b.does client (r.client, ask (record { buffer = r.buffer; version = r.version; clock = t.t1; token = r.token; uptime = r.uptime }))
 
-    abbrev pub the_reply : Written ReplyAnswer
+    abbrev pub the_reply : Written (Given (Unit {0}))
     the_reply = b.does reply (record { settings = r.settings; request = take 48 the_ask.octets; t2 = t.t2; t3 = t.t3; buffer = r.reply_buffer })
 
     abbrev pub reply_arriving : Client × Call
@@ -86,7 +87,7 @@ module _ (b : Behaviour) where
     pub record CallConclusions : Type 0 where
       pub refusals : AllRefused the_ask.next r.calls
       pub unchanged : after the_ask.next r.calls ≡ the_ask.next
-      pub answered : the_reply.answer ≡ ReplyAnswer.Written
+      pub answered : the_reply.answer ≡ answered tt
 
   -- ---- demand 3
 

@@ -1,4 +1,6 @@
 -- Demand 3 for one record of a list, whatever calls are made for the other records in between.
+use Rattle.refusals.specs.Given.{answered}
+use Rattle.refusals.specs.Given.{Given}
 use Rattle.std.specs.Prelude.{ℕ, ◌^◌, ◌≤◌, ◌<◌, ◌≡◌, ◌≢◌, Bool, true, List, [], ◌∷◌, T, ℤ, pos, nat_abs, ◌+ℤ◌, ◌-ℤ◌, length, take, ◌≤ℤ◌}
 use Rattle.refusals.specs.Numbers as numbers
 use Rattle.token.specs.declared.Token.{Token}
@@ -6,7 +8,6 @@ use Rattle.offset.specs.Halving.{twice}
 use Rattle.client.specs.declared.Client.{Client}
 use Rattle.client.specs.Calls.{accepted}
 use Rattle.server_packet.specs.declared.Settings.{Settings}
-use Rattle.server.specs.declared.ReplyAnswer.{ReplyAnswer}
 use Rattle.association_rules.specs.Associations.{association}
 use Rattle.demands.specs.Form.{refusal}
 use Rattle.demands.specs.Common.{Written}
@@ -82,7 +83,7 @@ module _ (b : Behaviour) where
     abbrev pub the_ask : ListOutcome
     the_ask = does r.before (record { at = r.at; call = ask (record { buffer = r.buffer; version = r.version; clock = T1 e; token = r.token; uptime = r.uptime }) })
 
-    abbrev pub the_reply : Written ReplyAnswer
+    abbrev pub the_reply : Written (Given (Unit {0}))
     the_reply = b.does reply (record { settings = r.settings; request = take 48 the_ask.octets; t2 = T2 e; t3 = T3 e; buffer = r.reply_buffer })
 
     abbrev pub at_end : Associations
@@ -103,7 +104,7 @@ module _ (b : Behaviour) where
     pub record Conclusions : Type 0 where
       pub refusals : AllRefused r.at (left the_ask) r.calls
       pub unchanged : association at_end.list r.at ≡ association the_ask.list r.at
-      pub answered : the_reply.answer ≡ ReplyAnswer.Written
+      pub answered : the_reply.answer ≡ answered tt
       pub offset : ℤ
       pub half : ℕ
       pub half_0_or_1 : half ≤ 1

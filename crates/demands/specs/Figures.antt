@@ -1,17 +1,16 @@
 -- The twelve figures that the rules mark to be proved, one table under one claim about the definitions.
+use Rattle.refusals.specs.Given.{Given, refused, answered, numbered}
+use Rattle.offset.specs.declared.Measurement.{Measurement}
 use Rattle.std.specs.Prelude.{ℕ, ◌+◌, ◌-◌, ◌*◌, ◌^◌, ◌≡◌, false, List, [], ◌∷◌, ◌++◌, ℤ, pos, neg_ℤ, length, replicate, take}
 use Rattle.timestamp.specs.Timestamp.{timestamp}
 use Rattle.token.specs.Token.{token}
-use Rattle.offset.specs.declared.OffsetAnswer.{OffsetAnswer}
 use Rattle.offset.specs.Offset.{measured}
 use Rattle.calendar.specs.declared.Date.{Date}
-use Rattle.calendar.specs.declared.DateAnswer.{DateAnswer}
 use Rattle.calendar.specs.Dates.{date}
 use Rattle.calendar.specs.Calendar.{date_of}
-use Rattle.precision.specs.declared.PrecisionAnswer.{PrecisionAnswer}
 use Rattle.precision.specs.Precision.{precision_of}
 use Rattle.client.specs.Record.{fresh}
-use Rattle.client.specs.Calls.{ask, arrival, Result, accepted, step}
+use Rattle.client.specs.Calls.{ask, arrival, Told, accepted, step}
 use Rattle.demands.specs.Form.{Shown, telling}
 use Rattle.demands.specs.Measure.{shown}
 
@@ -21,28 +20,28 @@ pub data Figure : Type 0 where
   gives_half : (t1 t2 t3 t4 : ℕ) → (offset : ℤ) (half : ℕ) → Figure  -- and where the rules name no delay
   gives_offset : (t1 t2 t3 t4 : ℕ) → (offset : ℤ) → Figure  -- nor a half
   refused_by : (t1 t2 t3 t4 number : ℕ) → Figure
-  after_ask : (clock : ℕ) (packet : List ℕ) (t4 : ℕ) → Result → Figure  -- an arrival after a fresh client's ask in version 4, whose token is the clock reading
+  after_ask : (clock : ℕ) (packet : List ℕ) (t4 : ℕ) → Told → Figure  -- an arrival after a fresh client's ask in version 4, whose token is the clock reading
   seconds_are : (seconds : ℕ) → Date → Figure  -- a timestamp with these seconds and no fraction
   ticks_give : (tick : ℕ) (precision : ℤ) (other : ℕ) (other-precision : ℤ) → Figure  -- two ticks in one row
 
-abbrev measured_at : ℕ → ℕ → ℕ → ℕ → OffsetAnswer
-measured_at t1 t2 t3 t4 = measured (timestamp t1) (timestamp t2) (timestamp t3) (timestamp t4)
+abbrev measured_at : ℕ → ℕ → ℕ → ℕ → Given Measurement
+measured_at t1 t2 t3 t4 = numbered (measured (timestamp t1) (timestamp t2) (timestamp t3) (timestamp t4))
 
 -- not refused, and the first values shown are these
 abbrev Begins : Shown → List ℤ → Type 0
 Begins s values = record { kind = s.kind; number = s.number; values = take (length values) s.values } ≡ telling values
 
 abbrev pub Right : Figure → Type 0
-Right (gives t1 t2 t3 t4 offset half delay) = measured_at t1 t2 t3 t4 ≡ OffsetAnswer.Measured offset half delay
+Right (gives t1 t2 t3 t4 offset half delay) = measured_at t1 t2 t3 t4 ≡ answered (record { offset = offset; half = half; delay = delay })
 Right (gives_half t1 t2 t3 t4 offset half) = Begins (shown (measured_at t1 t2 t3 t4)) (offset ∷ pos half ∷ [])
 Right (gives_offset t1 t2 t3 t4 offset) = Begins (shown (measured_at t1 t2 t3 t4)) (offset ∷ [])
-Right (refused_by t1 t2 t3 t4 number) = measured_at t1 t2 t3 t4 ≡ OffsetAnswer.Refused number
+Right (refused_by t1 t2 t3 t4 number) = measured_at t1 t2 t3 t4 ≡ refused number
 Right (after_ask clock packet t4 result) =
     (step (step fresh (ask (record { buffer = replicate 48 0; version = 4; clock = timestamp clock; token = token clock; uptime = 0 }))).next (arrival (record { packet = packet; t4 = timestamp t4; alternate = false }))).result
     ≡ result
-Right (seconds_are seconds d) = date_of (timestamp (seconds * 2 ^ 32)) ≡ DateAnswer.Date d
+Right (seconds_are seconds d) = numbered (date_of (timestamp (seconds * 2 ^ 32))) ≡ answered d
 Right (ticks_give tick p other q) =
-    ◌≡◌ {A = PrecisionAnswer × PrecisionAnswer} (precision_of tick, precision_of other) (PrecisionAnswer.Precision p, PrecisionAnswer.Precision q)
+    ◌≡◌ {A = (Given ℤ) × (Given ℤ)} (numbered (precision_of tick), numbered (precision_of other)) (answered p, answered q)
 
 -- every figure of a table is right
 infixr 3 ◌and◌

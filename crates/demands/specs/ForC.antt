@@ -1,15 +1,15 @@
 -- The calls for C: those of the client on an image, and the server's, around the inner ones; and fresh.
+use Rattle.refusals.specs.Given.{given_number}
+use Rattle.refusals.specs.Given.{Given}
 use Rattle.std.specs.Prelude.{ℕ, ◌≤◌, ◌≡◌, cond, List, [], eqb, ℤ, length, get_or, replicate}
-use Rattle.refusals.specs.Numbers.{image_not_legal}
+use Rattle.refusals.specs.declared.Refusal.TheVariants.{ImageNotLegal}
 use Rattle.slices.specs.Slices.{read_at}
 use Rattle.timestamp.specs.Timestamp.{timestamp}
-use Rattle.ordered_tests.specs.Tests.{answered}
-use Rattle.client.specs.declared.Client.{Client}
+use Rattle.std.specs.Prelude.{Ok}
 use Rattle.client.specs.Calls as calls
-use Rattle.server.specs.declared.ReplyAnswer.{ReplyAnswer}
 use Rattle.firmware_layouts.specs.Image.{record_in}
 use Rattle.firmware_layouts.specs.Answer.{answer_in}
-use Rattle.firmware.specs.Numbers.{number_of, replied_number}
+use Rattle.firmware.specs.Numbers.{number_of}
 use Rattle.firmware.specs.Client as firmware
 use Rattle.firmware.specs.Client.{LentCall, ask, arrival, give_up, inner, lent_answer, next_image}
 use Rattle.firmware.specs.Server.{settings, reply_number, reply_buffer}
@@ -37,7 +37,7 @@ fresh_for_c = record {
   shown = λ o. shown_number o.number;
   refusing = λ image n. record { number = n; image = image };
   rules = λ image.
-      image_not_legal unless length image ≡ 32 then
+      ImageNotLegal unless length image ≡ 32 then
       does (record { number = 0; image = replicate 32 0 });
 }
 
@@ -99,7 +99,7 @@ client_for_c = record {
   shown = shown;
   refusing = λ i n. record { number = n; image = i.image; octets = calls.lent (inner i.call); answer = lent_answer i.call };
   rules = λ i.
-      image_not_legal unless Admitted i then
+      ImageNotLegal unless Admitted i then
       map_rules (lent_after i) (call_rules (record_in i.image) (inner i.call));
 }
 
@@ -134,8 +134,8 @@ inner_request x = record {
 }
 
 -- what is made of the server's outcome
-abbrev pub returned : Written ReplyAnswer → Written ℕ
-returned o = record { answer = replied_number o.answer; octets = o.octets }
+abbrev pub returned : Written (Given (Unit {0})) → Written ℕ
+returned o = record { answer = given_number o.answer; octets = o.octets }
 
 abbrev pub replying : Wrapper reply
 replying = record {
@@ -143,7 +143,7 @@ replying = record {
   Outcome = Written ℕ;
   shown = λ o. shown_number o.answer;
   refusing = λ x n. record { answer = n; octets = x.buffer };
-  read = λ x. answered (inner_request x);
+  read = λ x. Ok (inner_request x);
   show = λ x. returned;
 }
 

@@ -2,7 +2,7 @@
 -- A call in between may be refused by 46, and then changes nothing.
 use Rattle.std.specs.Prelude.{ℕ, ◌^◌, ◌≤◌, ◌<◌, ◌≡◌, ◌≢◌, List, [], ◌∷◌, T, ℤ, pos, neg_ℤ, nat_abs, ◌+ℤ◌, ◌-ℤ◌, length, take, replicate, ◌≤ℤ◌}
 use Rattle.refusals.specs.Numbers as numbers
-use Rattle.refusals.specs.Numbers.{image_not_legal}
+use Rattle.refusals.specs.declared.Refusal.TheVariants.{ImageNotLegal}
 use Rattle.offset.specs.Halving.{twice}
 use Rattle.clocks.specs.WorkedExchanges.{replay}
 use Rattle.clocks.specs.Exchange.{Exchange, readings, true_difference, Orderly}
@@ -13,7 +13,7 @@ use Rattle.firmware.specs.Client.{LentCall, ask, arrival, give_up, inner}
 use Rattle.demands.specs.Common.{Written}
 use Rattle.demands.specs.Measure.{Four, d}
 use Rattle.demands.specs.Reply.{LegallySet}
-use Rattle.demands.specs.ForC.{ImageCall, ImageOutcome, RequestForC, inner_request}
+use Rattle.demands.specs.ForC.{ImageOutcome, RequestForC, inner_request}
 use Rattle.demands.specs.Behaviour.{Behaviour, client_for_c, reply_for_c, form, ours}
 use Rattle.demands.specs.Demand3.{Permitted}
 
@@ -92,8 +92,8 @@ module _ (b : Behaviour) where
       pub set : LegallySet (inner_request request).settings
       pub room : 48 ≤ length r.reply_buffer
       pub permitted : AllPermitted r.token r.uptime r.calls
-      pub reply_admitted : the_reply.answer ≢ image_not_legal
-      pub arrival_admitted : the_arrival.number ≢ image_not_legal
+      pub reply_admitted : the_reply.answer ≢ numbers.number ImageNotLegal
+      pub arrival_admitted : the_arrival.number ≢ numbers.number ImageNotLegal
 
     pub record Conclusions : Type 0 where
       pub refusals : AllRefused the_ask.image r.calls

@@ -1,7 +1,8 @@
 -- What is asked of any call. A call's file fills in the form; nothing is asked of a single call anywhere else but in the laws that tie calls together.
 use Rattle.std.specs.Prelude.{ℕ, ◌≡◌, ◌≢◌, ◌⊎◌, List, T, ℤ, pos, length, replicate}
 use Rattle.refusals.specs.Numbers as numbers
-use Rattle.ordered_tests.specs.Tests.{Given, refused, answered}
+use Rattle.refusals.specs.declared.Refusal.{Refusal}
+use Rattle.refusals.specs.Given.{Given, refused, answered}
 
 -- ---- what the caller is shown (docs/RULES.md, "Numbers a caller may see")
 
@@ -29,17 +30,17 @@ telling values = record { kind = acceptance; number = 0; values = values }
 
 infixr 3 ◌unless◌then◌ ◌provided◌else◌
 pub data Rules (O : Type 0) : Type 1 where
-  ◌unless◌then◌ : ℕ → Type 0 → Rules O → Rules O  -- refused by this number unless the fact holds; then the rest
+  ◌unless◌then◌ : Refusal → Type 0 → Rules O → Rules O  -- refused so unless the fact holds; then the rest
   ◌provided◌else◌ : O → Type 0 → Rules O → Rules O  -- this outcome provided the fact holds, and no later rule is looked at; else the rest
   does : O → Rules O  -- this outcome
-  refuses : ℕ → Rules O  -- refused by this number, whatever it is given
+  refuses : Refusal → Rules O  -- refused so, whatever it is given
 
 -- what the rules give: the first that applies decides
 abbrev pub Gives : {O : Type 0} → Rules O → Given O → Type 0
-Gives (n unless P then rest) g = ((P → ⊥) × (g ≡ refused n)) ⊎ (P × Gives rest g)
+Gives (r unless P then rest) g = ((P → ⊥) × (g ≡ refused (numbers.number r))) ⊎ (P × Gives rest g)
 Gives (o provided P else rest) g = (P × (g ≡ answered o)) ⊎ ((P → ⊥) × Gives rest g)
 Gives (does o) g = g ≡ answered o
-Gives (refuses n) g = g ≡ refused n
+Gives (refuses r) g = g ≡ refused (numbers.number r)
 
 -- ---- the form of a call
 

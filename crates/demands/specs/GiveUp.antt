@@ -1,6 +1,6 @@
 -- The client gives up waiting.
 use Rattle.std.specs.Prelude.{suc, ◌+◌, ◌≤◌, min, ◌≡◌, []}
-use Rattle.refusals.specs.Numbers.{record_not_legal, not_waiting, gave_up_too_soon}
+use Rattle.refusals.specs.declared.Refusal.TheVariants.{RecordNotLegal, NotWaiting, GaveUpTooSoon}
 use Rattle.client.specs.declared.Client.{Client}
 use Rattle.client.specs.declared.Phase.TheVariants.{Idle, Waiting}
 use Rattle.client.specs.Record.{without_request}
@@ -13,7 +13,7 @@ gave_up c = record { result = calls.done; next = without_request c Idle (min (su
 
 abbrev pub give_up_rules : Client → calls.GiveUp → Rules calls.Outcome
 give_up_rules c x =
-    record_not_legal unless Legal c then
-    not_waiting unless c.phase ≡ Waiting then
-    gave_up_too_soon unless c.uptime + 16 ≤ x.uptime then
+    RecordNotLegal unless Legal c then
+    NotWaiting unless c.phase ≡ Waiting then
+    GaveUpTooSoon unless c.uptime + 16 ≤ x.uptime then
     does (gave_up c)

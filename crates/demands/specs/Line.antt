@@ -1,19 +1,23 @@
 -- A line of a replay, its line feed left out: answered as the call that it carries is, and refused by 64 where it carries none.
+use Rattle.std.specs.Prelude.{Option, Some, None}
 use Rattle.std.specs.Prelude.{ℕ, cond, List, [], ◌∷◌, eqb}
-use Rattle.refusals.specs.Numbers.{line_malformed}
-use Rattle.ordered_tests.specs.Tests.{Given, refused, answered}
+use Rattle.refusals.specs.declared.Refusal.{Refusal}
+use Rattle.refusals.specs.declared.Refusal.TheVariants.{LineMalformed}
+use Rattle.std.specs.Prelude.{Result, Ok, Err}
+use Rattle.refusals.specs.declared.Refusal.{Refusal}
+use Rattle.refusals.specs.declared.Refusal.TheVariants.{LineMalformed}
 use Rattle.client.specs.declared.Client.{Client}
 use Rattle.client.specs.Calls.{Call}
 use Rattle.hex_decode.specs.Decoding.{decode}
-use Rattle.frames.specs.Frames.{LineAnswer, Parsed, call, malformed, parsed, answer_octets}
+use Rattle.frames.specs.Frames.{LineAnswer, parsed, answer_octets}
 use Rattle.replay_lines.specs.Replay as replay
 use Rattle.demands.specs.Form.{refusal, kiss, Shown, telling, Form, Implementation}
 use Rattle.demands.specs.Wrapper.{Wrapper, wrapped}
 use Rattle.demands.specs.Client.{numbers, client}
 
-abbrev pub carried : Client → Parsed → Given (Client × Call)
-carried c (call x) = answered (c, x)
-carried c malformed = refused line_malformed
+abbrev pub carried : Client → Option Call → Result (Client × Call) Refusal
+carried c (Some x) = Ok (c, x)
+carried c None = Err LineMalformed
 
 -- the first octet is the number, or E0 for a kiss; the others are the values
 abbrev pub shown : List ℕ → Shown

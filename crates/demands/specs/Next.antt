@@ -1,8 +1,10 @@
 -- What stands at a cursor: an extension field, the end of the fields, or octets that are neither.
+use Rattle.refusals.specs.Given.{Given, refused, answered, numbered}
+use Rattle.std.specs.Prelude.{Option, Some, None}
+use Rattle.extension.specs.declared.Field.{Field}
 use Rattle.std.specs.Prelude.{ℕ, ◌+◌, List, [], ◌∷◌, pos, length, drop, replicate}
-use Rattle.refusals.specs.Numbers.{packet_length_wrong}
+use Rattle.refusals.specs.declared.Refusal.TheVariants.{PacketLengthWrong}
 use Rattle.extension.specs.declared.Cursor.{Cursor}
-use Rattle.extension.specs.declared.NextAnswer.{NextAnswer}
 use Rattle.extension.specs.Reading.{stated_type, stated_length}
 use Rattle.extension.specs.Reader as reader
 use Rattle.extension.specs.Reader.{cursor}
@@ -14,10 +16,10 @@ pub record Next : Type 0 where
   pub cursor : Cursor
 
 -- the field's type, the two ends of its body, and where the next begins
-abbrev pub shown : NextAnswer → Shown
-shown (NextAnswer.Field field_type start end behind) = telling (pos field_type ∷ pos start ∷ pos end ∷ pos behind.at ∷ [])
-shown NextAnswer.Done = telling (replicate 4 (pos 0))
-shown (NextAnswer.Refused n) = refused_by 4 n
+abbrev pub shown : Given (Option Field) → Shown
+shown (answered (Some f)) = telling (pos f.field_type ∷ pos f.start ∷ pos f.end ∷ pos f.next.at ∷ [])
+shown (answered None) = telling (replicate 4 (pos 0))
+shown (refused n) = refused_by 4 n
 
 module _ (x : Next) where
   abbrev at : ℕ
@@ -27,20 +29,24 @@ module _ (x : Next) where
   abbrev t : List ℕ
   t = drop at x.packet
 
-  abbrev pub next_rules : Rules NextAnswer
+  -- the field that begins there
+  abbrev pub found : Field
+  found = record { field_type = stated_type t; start = at + 4; end = at + stated_length t; next = cursor (at + stated_length t) }
+
+  abbrev pub next_rules : Rules (Given (Option Field))
   next_rules =
-      NextAnswer.Field (stated_type t) (at + 4) (at + stated_length t) (cursor (at + stated_length t)) provided BeginsField t else
-      packet_length_wrong unless EndsFields (length t) then
-      does NextAnswer.Done
+      answered (Some found) provided BeginsField t else
+      PacketLengthWrong unless EndsFields (length t) then
+      does (answered None)
 
 abbrev pub next : Form
 next = record {
   Input = Next;
-  Outcome = NextAnswer;
+  Outcome = Given (Option Field);
   shown = shown;
-  refusing = λ x. NextAnswer.Refused;
+  refusing = λ x. refused;
   rules = next_rules;
 }
 
 abbrev pub ours : Implementation next
-ours x = reader.next x.packet x.cursor
+ours x = numbered (reader.next x.packet x.cursor)

@@ -1,11 +1,10 @@
 -- Broadcast between two clocks that run at the true rate: the packet of our writer is accepted, and its result is below the true difference by exactly the time
 -- that it travelled.
+use Rattle.refusals.specs.Given.{Given, answered}
 use Rattle.std.specs.Prelude.{ℕ, ◌+◌, ◌-◌, ◌^◌, ◌≤◌, ◌<◌, ◌≡◌, ◌≢◌, true, List, ℤ, pos, neg_ℤ, nat_abs, ◌-ℤ◌, length, take, ◌≤ℤ◌}
 use Rattle.timestamp.specs.declared.Timestamp.{Timestamp}
 use Rattle.timestamp.specs.Timestamp.{timestamp}
-use Rattle.packet.specs.declared.WriteAnswer.{WriteAnswer}
 use Rattle.server_packet.specs.declared.Settings.{Settings}
-use Rattle.broadcast.specs.declared.BroadcastAnswer.{BroadcastAnswer}
 use Rattle.demands.specs.Common.{not_available, Written}
 use Rattle.demands.specs.Reply.{LegallySet}
 use Rattle.demands.specs.Behaviour.{Behaviour, broadcast, broadcast_arrival, ours}
@@ -51,11 +50,11 @@ pub record Run : Type 0 where
   pub buffer : List ℕ
 
 module _ (b : Behaviour) (r : Run) where
-  abbrev pub the_write : Written WriteAnswer
+  abbrev pub the_write : Written (Given (Unit {0}))
   the_write = b.does broadcast (record { settings = r.settings; version = r.version; poll = r.poll; t3 = T3 r.way; buffer = r.buffer })
 
   -- the 48 octets that it wrote
-  abbrev pub the_arrival : BroadcastAnswer
+  abbrev pub the_arrival : Given ℤ
   the_arrival = b.does broadcast_arrival (record { packet = take 48 the_write.octets; t4 = T4 r.way })
 
   pub record Premises : Type 0 where
@@ -67,8 +66,8 @@ module _ (b : Behaviour) (r : Run) where
     pub room : 48 ≤ length r.buffer
 
   pub record Conclusions : Type 0 where
-    pub written : the_write.answer ≡ WriteAnswer.Written
-    pub result : the_arrival ≡ BroadcastAnswer.Difference (true_difference r.way -ℤ travelled r.way)
+    pub written : the_write.answer ≡ answered tt
+    pub result : the_arrival ≡ answered (true_difference r.way -ℤ travelled r.way)
 
 abbrev pub BroadcastDifference : Behaviour → Type 0
 BroadcastDifference b = (r : Run) → Premises b r → Conclusions b r

@@ -1,6 +1,7 @@
 -- The order of each call's tests, those of docs/RULES.md, as lists of numbers, in one place. The checker computes that each call's rules, which the demands go by, and
 -- its table of tests, which the contracts of the code go by, have it.
 use Rattle.std.specs.Prelude.{ℕ, min, ◌≡◌, List, [], ◌∷◌, ◌++◌, length, drop}
+use Rattle.refusals.specs.Numbers.{number}
 use Rattle.ordered_tests.specs.Tests.{Tests, ◌if◌else◌, ◌when◌else◌, otherwise}
 use Rattle.timestamp.specs.declared.Timestamp.{Timestamp}
 use Rattle.timestamp.specs.Timestamp.{◌since◌}
@@ -141,13 +142,13 @@ tick_order = tests (29 ∷ 32 ∷ [])
 -- ---- the orders of rules and tables
 
 abbrev pub of_rules : {O : Type 0} → Rules O → List Place
-of_rules (n unless P then rest) = test n ∷ of_rules rest
+of_rules (r unless P then rest) = test (number r) ∷ of_rules rest
 of_rules (o provided P else rest) = outcome ∷ of_rules rest
 of_rules (does o) = []
-of_rules (refuses n) = test n ∷ []
+of_rules (refuses r) = test (number r) ∷ []
 
 abbrev pub of_table : {A : Type 0} → Tests A → List Place
-of_table (n if b else rest) = test n ∷ of_table rest
+of_table (r if b else rest) = test (number r) ∷ of_table rest
 of_table (a when b else rest) = outcome ∷ of_table rest
 of_table (otherwise a) = []
 

@@ -2,7 +2,7 @@
 use Rattle.std.specs.Prelude.{ℕ, ◌+◌, ◌-◌, ◌*◌, ◌^◌, max, ◌≡◌, ℤ, pos, neg_ℤ, nat_abs, ◌+ℤ◌}
 use Rattle.timestamp.specs.Timestamp.{timestamp}
 use Rattle.offset.specs.Halving.{twice}
-use Rattle.client.specs.Calls.{Result, refused, accepted}
+use Rattle.client.specs.Calls.{Told, refused, accepted}
 use Rattle.demands.specs.Measure.{d}
 use Rattle.demands.specs.Behaviour.{ours}
 use Rattle.clocks.specs.Exchange.{Exchange, true_difference}
@@ -14,7 +14,7 @@ use Rattle.demands.specs.Witnesses.{run}
 
 module _ (client_tick server_tick : ℕ) (e : Exchange) where
   -- the premises are met, the clocks read these four, and the arrival of the reply tells this
-  pub record Works (t1 t2 t3 t4 : ℕ) (result : Result) : Type 0 where
+  pub record Works (t1 t2 t3 t4 : ℕ) (result : Told) : Type 0 where
     pub met : Premises client_tick server_tick ours (run e)
     pub read : readings client_tick server_tick e ≡ record { t1 = timestamp t1; t2 = timestamp t2; t3 = timestamp t3; t4 = timestamp t4 }
     pub told : (the_arrival ours (readings client_tick server_tick e) (run e)).result ≡ result

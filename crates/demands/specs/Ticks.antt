@@ -1,7 +1,8 @@
 -- Demand 3 for clocks that tick: the reply is accepted, or refused by 18, and the offset misses the true difference by at most half the delay plus the larger
 -- tick less one unit.
 use Rattle.std.specs.Prelude.{ℕ, ◌≤◌, ◌≡◌, ◌⊎◌, ℤ, pos, ◌<ℤ◌}
-use Rattle.refusals.specs.Numbers.{delay_negative}
+use Rattle.refusals.specs.Numbers.{number}
+use Rattle.refusals.specs.declared.Refusal.TheVariants.{DelayNegative}
 use Rattle.clocks.specs.Ticks.{readings, Orderly, InBound}
 use Rattle.client.specs.Calls.{accepted}
 use Rattle.demands.specs.Measure.{Four, d}
@@ -20,7 +21,7 @@ module _ (client_tick server_tick : ℕ) (b : Behaviour) (r : Run) where
   -- the delay is negative, and the arrival is refused by 18 and changes nothing
   pub record TooShort : Type 0 where
     pub negative : d t <ℤ pos 0
-    pub reply : the_arrival b t r ≡ (form client).refusing (reply_arriving b t r) delay_negative
+    pub reply : the_arrival b t r ≡ (form client).refusing (reply_arriving b t r) (number DelayNegative)
 
   pub record Accepted : Type 0 where
     pub offset : ℤ

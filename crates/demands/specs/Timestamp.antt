@@ -1,8 +1,9 @@
 -- The timestamp of a date.
+use Rattle.timestamp.specs.declared.Timestamp.{Timestamp}
+use Rattle.refusals.specs.Given.{Given, refused, answered, numbered}
 use Rattle.std.specs.Prelude.{◌≤◌, ◌<◌, ◌≢◌, [], ◌∷◌, pos}
-use Rattle.refusals.specs.Numbers.{no_such_date, outside_window, timestamp_zero}
+use Rattle.refusals.specs.declared.Refusal.TheVariants.{NoSuchDate, OutsideWindow, TimestampZero}
 use Rattle.calendar.specs.declared.Date.{Date}
-use Rattle.calendar.specs.declared.TimestampAnswer.{TimestampAnswer}
 use Rattle.calendar.specs.Gregorian.{leap_days, month_days}
 use Rattle.calendar.specs.Dates.{seconds_to}
 use Rattle.calendar.specs.Calendar.{window_start, window_end, timestamp_at, timestamp_of}
@@ -19,22 +20,22 @@ Exists d =
 abbrev pub InWindow : Date → Type 0
 InWindow d = (window_start ≤ seconds_to d) × (seconds_to d ≤ window_end)
 
-abbrev pub shown : TimestampAnswer → Shown
-shown (TimestampAnswer.Refused n) = refused_by 1 n
-shown (TimestampAnswer.Timestamp t) = telling (pos t.0 ∷ [])
+abbrev pub shown : Given Timestamp → Shown
+shown (refused n) = refused_by 1 n
+shown (answered t) = telling (pos t.0 ∷ [])
 
 abbrev pub timestamp : Form
 timestamp = record {
   Input = Date;
-  Outcome = TimestampAnswer;
+  Outcome = Given Timestamp;
   shown = shown;
-  refusing = λ d. TimestampAnswer.Refused;
+  refusing = λ d. refused;
   rules = λ d.
-      no_such_date unless Exists d then
-      outside_window unless InWindow d then
-      timestamp_zero unless timestamp_at d ≢ not_available then
-      does (TimestampAnswer.Timestamp (timestamp_at d));
+      NoSuchDate unless Exists d then
+      OutsideWindow unless InWindow d then
+      TimestampZero unless timestamp_at d ≢ not_available then
+      does (answered (timestamp_at d));
 }
 
 abbrev pub ours : Implementation timestamp
-ours = timestamp_of
+ours d = numbered (timestamp_of d)

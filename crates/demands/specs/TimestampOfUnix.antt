@@ -1,7 +1,8 @@
 -- The timestamp of a Unix time.
+use Rattle.timestamp.specs.declared.Timestamp.{Timestamp}
+use Rattle.refusals.specs.Given.{Given, refused, answered, numbered}
 use Rattle.std.specs.Prelude.{◌^◌, ◌<◌, ◌≢◌, pos, ◌≤ℤ◌}
-use Rattle.refusals.specs.Numbers.{no_such_date, outside_window, timestamp_zero}
-use Rattle.calendar.specs.declared.TimestampAnswer.{TimestampAnswer}
+use Rattle.refusals.specs.declared.Refusal.TheVariants.{NoSuchDate, OutsideWindow, TimestampZero}
 use Rattle.calendar.specs.Calendar.{window_start, window_end}
 use Rattle.unix_time.specs.declared.UnixTime.{UnixTime}
 use Rattle.unix_time.specs.UnixTime.{from_year0, timestamp_at, timestamp_of}
@@ -16,15 +17,15 @@ InWindow u = (pos window_start ≤ℤ from_year0 u.seconds) × (from_year0 u.sec
 abbrev pub timestamp_of_unix : Form
 timestamp_of_unix = record {
   Input = UnixTime;
-  Outcome = TimestampAnswer;
+  Outcome = Given Timestamp;
   shown = shown;
-  refusing = λ u. TimestampAnswer.Refused;
+  refusing = λ u. refused;
   rules = λ u.
-      no_such_date unless u.nanoseconds < 10 ^ 9 then
-      outside_window unless InWindow u then
-      timestamp_zero unless timestamp_at u ≢ not_available then
-      does (TimestampAnswer.Timestamp (timestamp_at u));
+      NoSuchDate unless u.nanoseconds < 10 ^ 9 then
+      OutsideWindow unless InWindow u then
+      TimestampZero unless timestamp_at u ≢ not_available then
+      does (answered (timestamp_at u));
 }
 
 abbrev pub ours : Implementation timestamp_of_unix
-ours = timestamp_of
+ours u = numbered (timestamp_of u)

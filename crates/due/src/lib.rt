@@ -2,66 +2,52 @@
 #![tactic(auto)]
 
 ghost use Rattle.std.specs.Prelude.{◌≡◌};
-ghost use Rattle.ordered_tests.specs.Tests.{answer};
-ghost use Rattle.due.specs.declared.Due.TheVariants.{Refused};
+ghost use Rattle.ordered_tests.specs.Tests.{given};
 ghost use Rattle.due.specs.Due.{past, ask_due, give_up_due};
 
 use client::{Client, Phase};
+use refusals::Refusal;
 use timestamp::Timestamp;
 
-#[derive(Clone, Copy)]
-pub enum Due {
-    Refused(u8),
-    At(u64),
-}
-
-// The uptime `seconds` past `since`, or refused by `too_soon` if 64 bits do not hold it. No sum is formed before it is known to fit.
-fn past(too_soon: u8, since: u64, seconds: u64) -> Due
-    ensures { result ≡ answer Refused (past too_soon since seconds) }
+// The uptime `seconds` past `since`, or refused by `too_soon` if 64 bits do not hold it.
+fn past(too_soon: Refusal, since: u64, seconds: u64) -> Result<u64, Refusal>
+    ensures { result ≡ given (past too_soon since seconds) }
 {
-    if u64::MAX - since < seconds {
-        return Due::Refused(too_soon);
-    }
-    Due::At(since + seconds)
+    since.checked_add(seconds).ok_or(too_soon)
 }
 
 // The first uptime at which `Client::ask` does not refuse this record by 6. Refusals, in order: 29, 4, 5, 6.
-pub fn ask_due(client: Client) -> Due
+#[tactic(auto, using(client::proofs::Exponent::exponents, poll::proofs::Uptime::shifted), unfolding(crate::specs::Due::ask_due, crate::specs::Due::ask_due_tests))]
+pub fn ask_due(client: Client) -> Result<u64, Refusal>
     ensures { result ≡ ask_due client }
 {
     if client.illegal() {
-        return Due::Refused(refusals::RECORD_NOT_LEGAL);
+        return Err(Refusal::RecordNotLegal);
     }
-    let phase = client.phase;
-    match phase {
-        Phase::Stopped => Due::Refused(refusals::CLIENT_STOPPED),
-        Phase::Waiting => Due::Refused(refusals::ALREADY_WAITING),
-        Phase::Idle => {
-            if !client.asked {
-                return Due::At(0);
-            }
-            past(
-                refusals::ASKED_TOO_SOON,
-                client.uptime,
-                1u64 << client.exponent,
-            )
-        }
+    match client.phase {
+        Phase::Stopped => Err(Refusal::ClientStopped),
+        Phase::Waiting => Err(Refusal::AlreadyWaiting),
+        Phase::Idle if !client.asked => Ok(0),
+        Phase::Idle => past(
+            Refusal::AskedTooSoon,
+            client.uptime,
+            1u64 << client.exponent,
+        ),
     }
 }
 
 // The first uptime at which `Client::give_up` does not refuse this record by 20. Refusals, in order: 29, 8, 20.
-pub fn give_up_due(client: Client) -> Due
+#[tactic(auto, unfolding(crate::specs::Due::give_up_due, crate::specs::Due::give_up_due_tests))]
+pub fn give_up_due(client: Client) -> Result<u64, Refusal>
     ensures { result ≡ give_up_due client }
 {
     if client.illegal() {
-        return Due::Refused(refusals::RECORD_NOT_LEGAL);
+        return Err(Refusal::RecordNotLegal);
     }
-    let phase = client.phase;
-    match phase {
-        Phase::Idle => Due::Refused(refusals::NOT_WAITING),
-        Phase::Stopped => Due::Refused(refusals::NOT_WAITING),
+    match client.phase {
+        Phase::Idle | Phase::Stopped => Err(Refusal::NotWaiting),
         Phase::Waiting => past(
-            refusals::GAVE_UP_TOO_SOON,
+            Refusal::GaveUpTooSoon,
             client.uptime,
             Timestamp::LIMIT_SECONDS,
         ),

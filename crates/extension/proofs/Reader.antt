@@ -1,87 +1,79 @@
 -- What stands at an index of a packet. Assumes nothing.
-use Prim.Native.Nat.{ℕ, ◌+◌, ◌-◌, min, ◌≤◌, ◌<◌}
+use Prim.Native.Nat.{ℕ, ◌+◌, ◌-◌, ◌≤◌, ◌<◌}
 use native.Mathlib.Omega.{arith}
-use native.Mathlib.Decide.{dec_lt}
-use mathlib.Core.Path.{◌≡◌, sym, ◌∙◌}
-use mathlib.Core.Bool.{Bool, true, not, cond}
-use mathlib.Core.List.{List, []}
-use lib.ListN.{length, take, drop, length-drop, drop_of_length-le}
-use lib.Seq.{take_all, take-nil, drop-drop}
-use Rattle.arithmetic.specs.Octets.{part}
-use Rattle.ordered_tests.proofs.Tests.{At, starts, goes_on}
+use mathlib.Core.Path.{◌≡◌, sym, ap, ◌∙◌}
+use mathlib.Core.Bool.{true, false}
+use mathlib.Core.List.{List}
+use lib.ListN.{length, take, drop, length-drop}
+use lib.Seq.{length-take-le, take_all}
+use Rattle.std.specs.Bool.{then_some}
+use Rattle.std.specs.Prelude.{None, Some, Ok, Err}
+use Rattle.refusals.specs.declared.Refusal.TheVariants.{PacketLengthWrong}
+use Rattle.arithmetic.specs.Octets.{big_endian}
 use Rattle.slices.specs.Slices.{read_at}
 use Rattle.slices.proofs.Slices.{number_room}
-use Rattle.extension.specs.Reading.{ends_fields, is_field_length, begins_field, stated_type, stated_length, reading}
-use Rattle.extension.specs.Reader.{field_length, next_tests}
-use Rattle.extension.proofs.Heads.{no_room, some_length, no_length}
+use Rattle.extension.specs.declared.Cursor.{Cursor}
+use Rattle.extension.specs.Reading.{ends_fields, is_field_length, stated_type, stated_length, reading}
+use Rattle.extension.specs.Reader.{field_length, cursor, next}
+use Rattle.extension.proofs.Heads.{no_room, Begins, some_length, no_length}
 use Rattle.extension.proofs.Reading.{reading_field, reading_none}
 
-module _ (p : List ℕ) (at : ℕ) where
-  -- ---- the length of the field that begins there
+-- ---- the length of the field that begins the octets t
 
-  pub short : (left : ℕ) → left ≡ length p - at → left < 4 → 0 ≡ field_length (drop at p)
-  unfolding field_length
-  short left e h = rw (no_room (length (drop at p)) (stated_length (drop at p)) (rw length-drop (omega arith)))
+pub short : (t : List ℕ) → length t < 4 → None ≡ field_length t
+unfolding field_length
+short t h = rw (no_room (length t) (stated_length t) (omega arith))
 
-  pub measured : (left n : ℕ) (b : Bool) → left ≡ length p - at → 4 ≤ left → n ≡ read_at 2 p (at + 2) → is_field_length left n ≡ b → cond b n 0 ≡ field_length (drop at p)
-  unfolding field_length
-  measured left n b e h f g =
-      let l : length (drop at p) ≡ left = length-drop at p ∙ sym e in
-      let m : stated_length (drop at p) ≡ n = rw drop-drop (sym (f ∙ number_room 2 p (at + 2) (omega arith))) in
-      rw (l, m, g)
+pub measured : (t : List ℕ) (n : ℕ) → 4 ≤ length t → n ≡ read_at 2 (take 2 (drop 2 t)) 0 → then_some (is_field_length (length t) n) n ≡ field_length t
+unfolding field_length
+measured t n h e =
+    let l : length (take 2 (drop 2 t)) ≡ 2 = length-take-le 2 (drop 2 t) (rw length-drop (omega arith)) in
+    let m : stated_length t ≡ n = sym (e ∙ number_room 2 (take 2 (drop 2 t)) 0 (omega arith) ∙ ap big_endian (take_all 2 (take 2 (drop 2 t)) (omega arith))) in
+    rw m
 
-  -- a field of n octets begins there
-  pub record Begins (n : ℕ) : Type 0 where
-    pub room : at + 28 ≤ length p
-    pub at_least_16 : 16 ≤ n
-    pub within : at + n ≤ length p
-    pub is : begins_field (drop at p) ≡ true
-    pub states : n ≡ stated_length (drop at p)
+module _ (t : List ℕ) {n : ℕ} (e : Some n ≡ field_length t) where
+  b : Begins t n
+  b = some_length t n e
 
-  pub begins : (n : ℕ) → n ≡ field_length (drop at p) → (n ≡ 0 → ⊥) → Begins n
-  begins n e h =
-      let s = some_length (drop at p) n e h in
-      let l = length-drop at p in
-      record { room = omega (arith, s.1.1.room); at_least_16 = s.1.1.at_least_16; within = omega (arith, s.1.1.within, s.1.1.room); is = s.0; states = s.1.0 }
+  pub field_within : n ≤ length t
+  field_within = b.legal.within
 
-  pub type_there : {n : ℕ} → Begins n → (x : ℕ) → x ≡ read_at 2 p at → x ≡ stated_type (drop at p)
-  type_there b x e = e ∙ number_room 2 p at (omega (arith, b.room))
+  pub head_within : 28 ≤ length t
+  head_within = b.legal.room
 
-  -- ---- what is left after the fields
+  pub less_left : length (drop n t) < length t
+  less_left = rw length-drop (omega (arith, b.legal.room, b.legal.at_least_16, b.legal.within))
 
-  pub rest_on : {n : ℕ} → Begins n → (reading (drop at p)).rest ≡ (reading (drop (at + n) p)).rest
-  rest_on {n} b = rw (reading_field (drop at p) b.is, ← b.states, drop-drop)
+  pub type_there : read_at 2 t 0 ≡ stated_type t
+  type_there = number_room 2 t 0 (omega (arith, head_within))
 
-  pub rest_there : (n left : ℕ) → n ≡ field_length (drop at p) → n ≡ 0 → left ≡ length p - at → left ≡ length (reading (drop at p)).rest
-  rest_there n left e z l = rw (reading_none (drop at p) (no_length (drop at p) n e z), length-drop) l
+  -- what is left after the fields is left after this one
+  pub rest_on : (reading (take (length t - n) (drop n t))).rest ≡ (reading t).rest
+  rest_on = rw (take_all (length t - n) (drop n t) (rw length-drop (omega arith))) (sym (rw (reading_field t b.is, ← b.states)))
 
-  -- ---- the reader is past the row of a field, and its next test is this one
+pub rest_there : (t : List ℕ) → None ≡ field_length t → t ≡ (reading t).rest
+rest_there t e = rw (reading_none t (no_length t e))
 
-  pub no_field_there : (n : ℕ) → n ≡ field_length (drop at p) → n ≡ 0 → At 1 (next_tests (drop at p) at)
-  no_field_there n e z = goes_on starts (no_length (drop at p) n e z)
+-- ---- what the reader answers at a cursor
 
-  pub end_test : {r b : Bool} (left : ℕ) → left ≡ length p - at → r ≡ ends_fields left → not r ≡ b → not (ends_fields (length (drop at p))) ≡ b
-  end_test left e f g = rw (length-drop, ← e, ← f) g
+module _ (p : List ℕ) (c : Cursor) where
+  pub at_within : (n : ℕ) → Some n ≡ field_length (drop c.at p) → c.at + 28 ≤ length p
+  at_within n e = omega (arith, length-drop c.at p, head_within (drop c.at p) e)
 
--- ---- a part whose ends are moved into the packet
+  pub end_within : (n : ℕ) → Some n ≡ field_length (drop c.at p) → c.at + n ≤ length p
+  end_within n e = omega (arith, length-drop c.at p, head_within (drop c.at p) e, field_within (drop c.at p) e)
 
-pub clamped : (p : List ℕ) (start end last first : ℕ) → last ≡ min end (length p) → first ≡ min start last
-    → take (last - first) (drop first p) ≡ part start (end - start) p
-clamped p start end last first e f = go (dec_lt start last) (dec_lt (length p) end)
-  where
-    go : Dec (start < last) → Dec (length p < end) → take (last - first) (drop first p) ≡ take (end - start) (drop start p)
-    go (yes a) (yes b) =
-        let u : first ≡ start = omega arith in
-        rw u (take_all (last - start) (drop start p) (rw length-drop (omega arith)) ∙ sym (take_all (end - start) (drop start p) (rw length-drop (omega arith))))
-    go (yes a) (no b) =
-        let u : first ≡ start = omega arith in
-        let v : last ≡ end = omega arith in
-        rw (u, v)
-    go (no a) (yes b) =
-        let u : last - first ≡ 0 = omega arith in
-        let v : drop start p ≡ [] = drop_of_length-le p {i = start} (omega arith) in
-        rw (u, v, take-nil)
-    go (no a) (no b) =
-        let u : last - first ≡ 0 = omega arith in
-        let v : end - start ≡ 0 = omega arith in
-        rw (u, v)
+  pub field_found : (n x : ℕ) → Some n ≡ field_length (drop c.at p) → x ≡ read_at 2 (drop c.at p) 0
+      → Ok (Some (record { field_type = x; start = c.at + 4; end = c.at + n; next = cursor (c.at + n) })) ≡ next p c
+  unfolding next
+  field_found n x e f =
+      let s = some_length (drop c.at p) n e in
+      rw (s.is, f, type_there (drop c.at p) e, s.states)
+
+  pub end_found : None ≡ field_length (drop c.at p) → ends_fields (length (drop c.at p)) ≡ true → Ok None ≡ next p c
+  unfolding next
+  end_found e f = rw (no_length (drop c.at p) e, f)
+
+  pub neither_found : None ≡ field_length (drop c.at p) → ends_fields (length (drop c.at p)) ≡ false → Err PacketLengthWrong ≡ next p c
+  unfolding next
+  neither_found e f = rw (no_length (drop c.at p) e, f)

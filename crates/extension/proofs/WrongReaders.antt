@@ -5,11 +5,12 @@ use mathlib.Core.Path.{◌≡◌, refl, sym, ap, ◌∙◌}
 use mathlib.Core.Bool.{Bool, false}
 use mathlib.Core.List.{List, [], ◌∷◌, ◌++◌, append-nil}
 use lib.ListN.{replicate}
+use Rattle.std.specs.Prelude.{None}
+use Rattle.refusals.specs.Given.{answered}
 use Rattle.extension.specs.declared.Cursor.{Cursor}
-use Rattle.extension.specs.declared.NextAnswer.{NextAnswer}
 use Rattle.extension.specs.Tail.{header_length, Field, octets_of, end, field, WellFormed}
-use Rattle.extension.specs.Reader.{cursor, next}
-use Rattle.extension.specs.ReaderLaws.{Reader, Walk, hand}
+use Rattle.extension.specs.Reader.{cursor}
+use Rattle.extension.specs.ReaderLaws.{Reader, reads, Walk, hand}
 use Rattle.extension.specs.WrongReaders.{hands_out_nothing, unless_unknown, stops_at_unknown, Refuted}
 use Rattle.extension.proofs.Front.{length_field}
 use Rattle.extension.proofs.Walks.{reader_laws}
@@ -31,11 +32,11 @@ module _ (field_type : ℕ) where
       }
 
 -- a reader that is done at the first field hands out no list of a field
-none_handed : (reader : Reader) (packet : List ℕ) (c : Cursor) {f : Field} {fs : List Field} → reader packet c ≡ NextAnswer.Done → Walk reader packet c (f ∷ fs) → ⊥
-none_handed reader packet c e (hand d w) = let z : ◌≡◌ {A = ℕ} 0 1 = cc in absurd (omega arith)
+none_handed : (reader : Reader) (packet : List ℕ) (c : Cursor) {f : Field} {fs : List Field} → reader packet c ≡ answered None → Walk reader packet c (f ∷ fs) → ⊥
+none_handed reader packet c e (hand d w) = absurd cc
 
 -- a field of a type that it does not know is the first that is left out
-first_unknown : (known : ℕ → Bool) {p : List ℕ} {c : Cursor} {f : Field} {fs : List Field} → Walk next p c (f ∷ fs) → known f.field_type ≡ false → stops_at_unknown known p c ≡ NextAnswer.Done
+first_unknown : (known : ℕ → Bool) {p : List ℕ} {c : Cursor} {f : Field} {fs : List Field} → Walk reads p c (f ∷ fs) → known f.field_type ≡ false → stops_at_unknown known p c ≡ answered None
 first_unknown known (hand d w) k = ap (unless_unknown known) d ∙ rw k
 
 pub refuted : Refuted

@@ -6,6 +6,8 @@ ghost use Rattle.arithmetic.specs.Octets.{part};
 ghost use Rattle.extension.specs.Reading.{ends_fields, is_field_length, after_fields, is_malformed};
 ghost use Rattle.extension.specs.Reader.{field_length, begun, next};
 
+use refusals::Refusal;
+
 // The octets of a packet before its extension fields, and the most that a packet may have.
 pub const HEADER_LENGTH: usize = 48;
 
@@ -17,123 +19,111 @@ pub struct Cursor {
     pub at: usize,
 }
 
-// What beginning to read the fields of a packet answers.
+// A field: its type, its body, which is the packet's octets from start to end, and the cursor behind it.
 #[derive(Clone, Copy)]
-pub enum BeginAnswer {
-    Refused(u8),
-    Begun(Cursor),
-}
-
-// What stands at a cursor: a field, whose body is the packet's octets from start to end; the end of the fields; or octets that break the rules, by 7.
-#[derive(Clone, Copy)]
-pub enum NextAnswer {
-    Field {
-        field_type: u16,
-        start: usize,
-        end: usize,
-        next: Cursor,
-    },
-    Done,
-    Refused(u8),
+pub struct Field {
+    pub field_type: u16,
+    pub start: usize,
+    pub end: usize,
+    pub next: Cursor,
 }
 
 // Nothing is left, or an authenticator.
+#[tactic(auto, unfolding(crate::specs::Reading::ends_fields))]
 fn ends_fields(left: usize) -> bool
     ensures { result ≡ ends_fields left }
 {
-    (left == 0) | (left == 4) | (left == 20) | (left == 24)
+    matches!(left, 0 | 4 | 20 | 24)
 }
 
 // A field of n octets may begin where so many are left.
+#[tactic(auto, unfolding(crate::specs::Reading::is_field_length))]
 fn is_field_length(left: usize, n: usize) -> bool
     ensures { result ≡ is_field_length left n }
 {
-    (28 <= left) & (16 <= n) & (n % 4 == 0) & (n <= left)
+    28 <= left && 16 <= n && n % 4 == 0 && n <= left
 }
 
-// How many octets of a packet of so many stand from index at on.
-fn octets_from(size: usize, at: usize) -> usize
-    ensures { result ≡ size - at }
+// The length of the field that begins these octets, where one begins.
+#[tactic(auto, using(crate::proofs::Reader::short, crate::proofs::Reader::measured))]
+fn field_length(left: &[u8]) -> Option<usize>
+    ensures { result ≡ field_length left.now }
 {
-    if size < at { 0 } else { size - at }
+    let stated = left.get(2..4)?;
+    let n = usize::from(slices::read_be16(stated, 0));
+    is_field_length(left.len(), n).then_some(n)
 }
 
-// The length of the field that begins at index at, and 0 where none begins.
-fn field_length(packet: &[u8], at: usize) -> usize
-    ensures { result ≡ field_length (drop at packet.now) }
+// The octets of a packet from index at on.
+fn octets_from(packet: &[u8], at: usize) -> &[u8]
+    ensures { result.now ≡ drop at packet.now }
 {
-    let left = octets_from(packet.len(), at);
-    if left < 4 {
-        return 0;
-    }
-    let n = slices::read_be16(packet, at + 2) as usize;
-    if is_field_length(left, n) { n } else { 0 }
+    packet.get(at..).unwrap_or(&[])
 }
 
 // How many octets are left where no field begins any more.
+#[tactic(auto, using(crate::proofs::Reader::field_within, crate::proofs::Reader::less_left, crate::proofs::Reader::rest_on, crate::proofs::Reader::rest_there))]
 pub fn octets_after_fields(packet: &[u8]) -> usize
     ensures { result ≡ length (after_fields packet.now) }
 {
-    let mut at = HEADER_LENGTH;
-    let mut n = field_length(packet, at);
-    while n != 0 {
-        at += n;
-        n = field_length(packet, at);
+    let mut left = octets_from(packet, HEADER_LENGTH);
+    while let Some(n) = field_length(left) {
+        left = &left[n..];
     }
-    octets_from(packet.len(), at)
+    left.len()
 }
 
 // Refusal 7: the packet is shorter than 48 octets, longer than 1024, or its tail breaks the rules. Most packets have no tail: they are taken at once.
+#[tactic(auto, using(crate::proofs::Reading::of_48), unfolding(crate::specs::Reading::is_malformed))]
 pub fn is_malformed(packet: &[u8]) -> bool
     ensures { result ≡ is_malformed packet.now }
 {
     if packet.len() == HEADER_LENGTH {
         return false;
     }
-    if packet.len() < HEADER_LENGTH {
-        return true;
-    }
-    if MAXIMUM_LENGTH < packet.len() {
+    if !(HEADER_LENGTH..=MAXIMUM_LENGTH).contains(&packet.len()) {
         return true;
     }
     !ends_fields(octets_after_fields(packet))
 }
 
 // Refuses a malformed packet before anything of it is handed out.
-pub fn begin(packet: &[u8]) -> BeginAnswer
+#[tactic(auto, unfolding(crate::specs::Reader::begun))]
+pub fn begin(packet: &[u8]) -> Result<Cursor, Refusal>
     ensures { result ≡ begun packet.now }
 {
     if is_malformed(packet) {
-        return BeginAnswer::Refused(refusals::PACKET_LENGTH_WRONG);
+        return Err(Refusal::PacketLengthWrong);
     }
-    BeginAnswer::Begun(Cursor { at: HEADER_LENGTH })
+    Ok(Cursor { at: HEADER_LENGTH })
 }
 
-// What stands at the cursor. It looks at that one head. A walk from where `begin` points meets no refusal.
-pub fn next(packet: &[u8], cursor: Cursor) -> NextAnswer
+// The field that stands at the cursor, or None at the end of the fields. It looks at that one head. A walk from where `begin` points meets no refusal.
+// `begin` and `next` are no iterator: C and the promises have a call for each step.
+#[tactic(auto, using(crate::proofs::Reader::at_within, crate::proofs::Reader::end_within, crate::proofs::Reader::field_found, crate::proofs::Reader::end_found, crate::proofs::Reader::neither_found))]
+pub fn next(packet: &[u8], cursor: Cursor) -> Result<Option<Field>, Refusal>
     ensures { result ≡ next packet.now cursor }
 {
     let at = cursor.at;
-    let n = field_length(packet, at);
-    if n != 0 {
-        return NextAnswer::Field {
-            field_type: slices::read_be16(packet, at),
+    let left = octets_from(packet, at);
+    if let Some(n) = field_length(left) {
+        return Ok(Some(Field {
+            field_type: slices::read_be16(left, 0),
             start: at + 4,
             end: at + n,
             next: Cursor { at: at + n },
-        };
+        }));
     }
-    if !ends_fields(octets_from(packet.len(), at)) {
-        return NextAnswer::Refused(refusals::PACKET_LENGTH_WRONG);
+    if !ends_fields(left.len()) {
+        return Err(Refusal::PacketLengthWrong);
     }
-    NextAnswer::Done
+    Ok(None)
 }
 
-// The packet's octets from start to end, as far as it has them.
+// The packet's octets from start to end, as far as it has them. It takes the two ends, and no field, as the promise for it does.
 pub fn body(packet: &[u8], start: usize, end: usize) -> &[u8]
     ensures { result.now ≡ part start (end - start) packet.now }
 {
-    let last = slices::least(end, packet.len());
-    let first = slices::least(start, last);
-    &packet[first..last]
+    let last = end.min(packet.len());
+    &packet[start.min(last)..last]
 }

@@ -1,42 +1,35 @@
 -- A field at the end of a packet: the tests, the octets, and reading it back. Assumes nothing.
-use Prim.Native.Nat.{ℕ, ◌+◌, ◌*◌, ◌^◌, min, ◌≤◌, ◌<◌}
-use native.Mathlib.Decide.{dec_lt}
+use Prim.Native.Nat.{ℕ, ◌+◌, ◌-◌, ◌*◌, ◌^◌, min, ◌≤◌, ◌<◌}
 use native.Mathlib.Omega.{arith}
-use mathlib.Core.Path.{◌≡◌, refl, sym, ap, ◌∙◌}
+use mathlib.Core.Path.{◌≡◌, sym, ap, ◌∙◌}
 use mathlib.Core.Bool.{false}
 use mathlib.Core.List.{List, [], ◌∷◌, ◌++◌, append-nil, append_assoc}
-use lib.Dec.{T}
-use lib.ListN.{length, take, drop, length-append, length-drop}
-use lib.Seq.{sets, sets-eq, length-take-le, take_at, drop_at, drop-append-le}
+use lib.ListN.{length, take, drop, length-append, length-drop, drop_of_length-le}
+use lib.Seq.{sets-eq, drop-drop, length-take-le, take_at, drop_at, drop-append-le}
 use mir.Facts.{ltb_no}
 use Rattle.arithmetic.specs.Octets.{octets, AreOctets}
-use Rattle.arithmetic.proofs.Octets.{are_part}
-use Rattle.ordered_tests.specs.Tests.{Tests, number}
-use Rattle.ordered_tests.proofs.Tests.{plain, passed, final, by_number, by_passing, kept_number, kept_passing}
+use Rattle.arithmetic.proofs.Octets.{length_octets, are_part}
+use Rattle.std.proofs.lemmas.List.{nil_from_length}
+use Rattle.std.specs.Prelude.{Result, Ok, Err}
+use Rattle.refusals.specs.declared.Refusal.{Refusal}
+use Rattle.ordered_tests.specs.Tests.{given, tested_of, kept_of}
+use Rattle.ordered_tests.proofs.Tests.{passed, passes}
 use Rattle.ordered_tests.proofs.Reflection.{is_false}
 use Rattle.slices.specs.Slices.{write_at}
+use Rattle.slices.proofs.Slices.{put_room}
 use Rattle.extension.specs.Tail.{header_length, maximum_length, Field, length_of, octets_of, Legal, Authenticator, of_4, of_20, of_24, Tail, end, authenticator, field, WellFormed}
 use Rattle.extension.specs.Reading.{extension_fields, after_fields, is_malformed}
 use Rattle.extension.proofs.Front.{length_field}
 use Rattle.extension.proofs.Reading.{tail_laws}
 use Rattle.extension.proofs.Walks.{reader_laws}
-use Rattle.extension_writer.specs.declared.AddAnswer.{AddAnswer}
 use Rattle.extension_writer.specs.Writer.{filled_length, filled_to, new_field, new_length, no_room, add_tests, added, with_field, added_buffer}
 use Rattle.extension_writer.specs.WriterLaws.{ReadsBack, WriterLaws}
-use Rattle.extension_writer.proofs.Fill.{fills, fewest, length_filled, field_stored}
+use Rattle.extension_writer.proofs.Fill.{fills, fewest, length_filled, head_octets}
 
 -- ---- the tests
 
 module _ (buffer : List ℕ) (size n : ℕ) where
-  pub refusals_alone : T (plain (add_tests buffer size n))
-  unfolding add_tests
-  refusals_alone = tt
-
-  pub last_row : final (add_tests buffer size n) ≡ AddAnswer.Added (new_length size n)
-  unfolding add_tests
-  last_row = refl
-
-  -- no test holds
+  -- no test refuses
   pub record Passed : Type 0 where
     pub within : size ≤ length buffer
     pub formed : is_malformed (take size buffer) ≡ false
@@ -44,19 +37,22 @@ module _ (buffer : List ℕ) (size n : ℕ) where
     pub room : new_length size n ≤ length buffer
     pub small : new_length size n ≤ maximum_length
 
-  pub facts : number (add_tests buffer size n) ≡ 0 → Passed
+  pub facts : (new : ℕ) → Ok new ≡ given (add_tests buffer size n) → (new ≡ new_length size n) × Passed
   unfolding add_tests no_room
-  facts z =
-      let p = passed (add_tests buffer size n) tt z in
+  facts new e =
+      let t = add_tests buffer size n in
+      let p = passed t tt (ap tested_of (sym e)) in
       let b : length (after_fields (take size buffer)) ≤ 0 = ltb_no p.1.1.0 in
-      let r : new_length size n ≤ min (length buffer) maximum_length = ltb_no p.1.1.1.0 in
-      record {
-        within = ltb_no p.0;
-        formed = (is_false _).from p.1.0;
-        bare = omega arith;
-        room = omega arith;
-        small = omega arith;
-      }
+      let r : new_length size n ≤ min (length buffer) maximum_length = ltb_no p.1.1.1.0 in (
+        cc (passes t p),
+        record {
+          within = ltb_no p.0;
+          formed = (is_false _).from p.1.0;
+          bare = omega arith;
+          room = omega arith;
+          small = omega arith;
+        },
+      )
 
 -- ---- the octets
 
@@ -73,20 +69,18 @@ module _ (field_type : ℕ) (body : List ℕ) where
   length_new_octets : length (octets_of f) ≡ 4 + m
   length_new_octets = length_field f ∙ length_of_new
 
-  stored : (buffer : List ℕ) (size : ℕ) → new_length size (length body) ≤ length buffer
-      → sets buffer size (octets 2 field_type ++ octets 2 (4 + m) ++ filled_to m body) ≡ with_field buffer size field_type body
-  stored buffer size h =
-      ap (λ k. sets buffer size (octets 2 field_type ++ octets 2 k ++ filled_to m body)) (sym length_of_new)
-      ∙ sets-eq (octets_of f) buffer size (rw length_new_octets h)
-      ∙ ap (λ k. take size buffer ++ octets_of f ++ drop (size + k) buffer) length_new_octets
-
   -- the head as one number, and the body behind it
-  pub field_put : (b : List ℕ) (at n : ℕ) (b₁ b₂ : List ℕ) → n ≡ m → new_length at (length body) ≤ length b → new_length at (length body) ≤ maximum_length
-      → b₁ ≡ write_at 4 b at (field_type * 65536 + (4 + n)) → b₂ ≡ sets b₁ (at + 4) (filled_to n body) → b₂ ≡ with_field b at field_type body
-  field_put b at n b₁ b₂ e room small x₁ x₂ =
-      x₂ ∙ ap (λ z. sets z (at + 4) (filled_to n body)) x₁
-      ∙ field_stored b at field_type (4 + n) (filled_to n body) (omega arith) (omega arith)
-      ∙ rw e (stored b at room)
+  pub field_put : (head : List ℕ) (n k : ℕ) → length head ≡ 4 → n ≡ 4 + m → n ≤ maximum_length → k + 4 ≡ n
+      → write_at 4 head 0 (field_type * 65536 + n) ++ filled_to k body ≡ octets_of f
+  field_put head n k h e small l =
+      let x = field_type * 65536 + n in
+      let room : 0 + 4 ≤ length head = omega arith in
+      let whole : length (octets 4 x) ≡ 4 = length_octets 4 x in
+      let none : drop (0 + length (octets 4 x)) head ≡ [] = drop_of_length-le head {i = 0 + length (octets 4 x)} (omega arith) in
+      let front : write_at 4 head 0 x ≡ octets 4 x ++ [] = put_room 4 head 0 room x ∙ sets-eq (octets 4 x) head 0 (rw whole room) ∙ ap (λ z. octets 4 x ++ z) none in
+      let i : k ≡ m = omega arith in
+      rw (front, append-nil, head_octets field_type n (omega arith), i)
+      (ap (λ k. octets 2 field_type ++ octets 2 k ++ filled_to m body) (e ∙ sym length_of_new))
 
 -- ---- reading it back
 
@@ -94,10 +88,6 @@ not_empty : {n : ℕ} → n ≡ 0 → Authenticator n → ⊥
 not_empty e of_4 = omega arith
 not_empty e of_20 = omega arith
 not_empty e of_24 = omega arith
-
-empty : {A : Type 0} (l : List A) → length l ≡ 0 → l ≡ []
-empty [] e = refl
-empty (x ∷ l) e = absurd (omega arith)
 
 -- one field more at the end
 extend : (f : Field) → Legal f → 28 ≤ length_of f → {t a : List ℕ} {fs : List Field} → a ≡ [] → Tail t fs a → Tail (t ++ octets_of f) (fs ++ (f ∷ [])) []
@@ -135,7 +125,7 @@ module _ (buffer : List ℕ) (size field_type : ℕ) (body : List ℕ) (known : 
       record {
         at_least_48 = rw length-append (omega (arith, w.at_least_48));
         at_most_1024 = rw length_FO p.small;
-        tail = rw (drop-append-le header_length F O w.at_least_48) (extend (new_field field_type body) legal at_least_28 (empty (after_fields F) p.bare) w.tail);
+        tail = rw (drop-append-le header_length F O w.at_least_48) (extend (new_field field_type body) legal at_least_28 (nil_from_length (after_fields F) p.bare) w.tail);
       }
 
   reads : ReadsBack buffer (with_field buffer size field_type body) size new field_type body
@@ -143,7 +133,7 @@ module _ (buffer : List ℕ) (size field_type : ℕ) (body : List ℕ) (known : 
       let D = drop new buffer in
       let front : take new (F ++ O ++ D) ≡ F ++ O = take_at (F ++ O) D new length_FO in
       record {
-        length_kept = rw (length-append (F ++ O) D, length_FO, length-drop) (omega (arith, p.room));
+        length_kept = rw (length-append, length_FO, length-drop) (omega (arith, p.room));
         front_kept = rw (append_assoc F O D) (take_at F (O ++ D) size length_F);
         rest_kept = drop_at (F ++ O) D new length_FO;
         well_formed = rw front longer;
@@ -152,36 +142,39 @@ module _ (buffer : List ℕ) (size field_type : ℕ) (body : List ℕ) (known : 
 
 -- ---- what adding gives
 
+-- the buffer has a part from size to new, of the field's length
+module _ (buffer : List ℕ) (size n new : ℕ) (e : Ok new ≡ given (add_tests buffer size n)) where
+  pub part_within : (size ≤ new) × (new ≤ length buffer)
+  part_within = let p = facts buffer size n new e in (omega (arith, p.0), omega (arith, p.0, p.1.room))
+
+  pub part_length : length (take (new - size) (drop size buffer)) ≡ 4 + filled_length n
+  part_length =
+      let p = facts buffer size n new e in
+      length-take-le (new - size) (drop size buffer) (rw length-drop (omega (arith, p.0, p.1.room))) ∙ omega (arith, p.0)
+
+  pub part_small : length (take (new - size) (drop size buffer)) ≤ maximum_length
+  part_small = let p = facts buffer size n new e in omega (arith, p.0, p.1.small, part_length)
+
 module _ (buffer : List ℕ) (size field_type : ℕ) (body : List ℕ) where
-  abbrev t : Tests AddAnswer
-  t = add_tests buffer size (length body)
+  abbrev after : Result ℕ Refusal → List ℕ
+  after g = kept_of g buffer (with_field buffer size field_type body)
 
-  -- code that found the number r of the table
-  pub refused_so : (r : ℕ) → r ≡ number t → (r ≡ 0 → ⊥) → (AddAnswer.Refused r ≡ added buffer size body) × (buffer ≡ added_buffer buffer size field_type body)
-  refused_so r e ne = (by_number AddAnswer.Refused t e ne, sym (kept_number t buffer (with_field buffer size field_type body) e ne))
+  -- the field is stored into the buffer's part from size to new
+  pub stored : (new : ℕ) → Ok new ≡ added buffer size body
+      → take size buffer ++ (octets_of (new_field field_type body) ++ drop (new - size) (drop size buffer)) ≡ added_buffer buffer size field_type body
+  stored new e =
+      let p = facts buffer size (length body) new e in
+      let k : size + (new - size) ≡ new_length size (length body) = omega (arith, p.0) in
+      rw (← append_assoc, drop-drop, k) (ap after e)
 
-  pub added_so : number t ≡ 0 → (AddAnswer.Added (new_length size (length body)) ≡ added buffer size body) × (with_field buffer size field_type body ≡ added_buffer buffer size field_type body)
-  added_so z =
-      let l = refusals_alone buffer size (length body) in
-      (sym (last_row buffer size (length body)) ∙ by_passing AddAnswer.Refused t l z, sym (kept_passing t buffer (with_field buffer size field_type body) l z))
+  refused : (r : Refusal) → added buffer size body ≡ Err r → added_buffer buffer size field_type body ≡ buffer
+  refused r e = ap after e
 
-  refused : (n : ℕ) → added buffer size body ≡ AddAnswer.Refused n → added_buffer buffer size field_type body ≡ buffer
-  refused n e = go (dec_lt 0 (number t))
-    where
-      go : Dec (0 < number t) → added_buffer buffer size field_type body ≡ buffer
-      go (yes h) = sym (refused_so (number t) refl (λ z. omega arith)).1
-      go (no h) = let q = (added_so (omega arith)).0 in let z : ◌≡◌ {A = ℕ} 0 1 = cc in absurd (omega arith)
-
-  reads_back : (new : ℕ) → AreOctets buffer → field_type < 2 ^ 16 → added buffer size body ≡ AddAnswer.Added new
+  reads_back : (new : ℕ) → AreOctets buffer → field_type < 2 ^ 16 → added buffer size body ≡ Ok new
       → ReadsBack buffer (added_buffer buffer size field_type body) size new field_type body
-  reads_back new known fits e = go (dec_lt 0 (number t))
-    where
-      go : Dec (0 < number t) → ReadsBack buffer (added_buffer buffer size field_type body) size new field_type body
-      go (yes h) = let q = (refused_so (number t) refl (λ z. omega arith)).0 in let z : ◌≡◌ {A = ℕ} 0 1 = cc in absurd (omega arith)
-      go (no h) =
-          let q = added_so (omega arith) in
-          let n : new ≡ new_length size (length body) = cc q.0 in
-          rw (← q.1, n) (reads buffer size field_type body known fits (facts buffer size (length body) (omega arith)))
+  reads_back new known fits e =
+      let p = facts buffer size (length body) new (sym e) in
+      rw (ap after e, p.0) (reads buffer size field_type body known fits p.1)
 
 pub writer_laws : WriterLaws
 writer_laws = record { fills = fills; fewest = fewest; refused = refused; reads_back = reads_back }

@@ -1,14 +1,15 @@
 -- What adding an extension field at the end of a packet gives (docs/RULES.md, "Extension fields"). The packet is the first `size` octets of a buffer.
-use Rattle.std.specs.Prelude.{ℕ, ◌+◌, ◌-◌, ◌*◌, ◌/◌, min, max, Bool, List, ◌++◌, ltb, length, take, drop, replicate}
-use Rattle.refusals.specs.Numbers.{packet_length_wrong, field_not_added}
-use Rattle.ordered_tests.specs.Tests.{Tests, ◌if◌else◌, otherwise, answer, kept}
+use Rattle.std.specs.Int.{next_multiple_of}
+use Rattle.std.specs.Prelude.{ℕ, ◌+◌, ◌-◌, min, max, Bool, List, ◌++◌, Result, ltb, length, take, drop, replicate}
+use Rattle.refusals.specs.declared.Refusal.{Refusal}
+use Rattle.refusals.specs.declared.Refusal.TheVariants.{PacketLengthWrong, FieldNotAdded}
+use Rattle.ordered_tests.specs.Tests.{Tests, ◌if◌else◌, otherwise, given, kept}
 use Rattle.extension.specs.Tail.{maximum_length, Field, octets_of}
 use Rattle.extension.specs.Reading.{after_fields, is_malformed}
-use Rattle.extension_writer.specs.declared.AddAnswer.{AddAnswer}
 
 -- a body of n octets has so many with the fewest zeros behind it that make a multiple of 4 and a field of at least 28
 unfoldable pub filled_length : ℕ → ℕ
-filled_length n = max 24 ((n + 3) / 4 * 4)
+filled_length n = max 24 (next_multiple_of n 4)
 
 abbrev pub filled_to : ℕ → List ℕ → List ℕ
 filled_to n body = body ++ replicate (n - length body) 0
@@ -25,16 +26,17 @@ unfoldable pub no_room : ℕ → ℕ → ℕ → Bool
 no_room capacity size n = ltb (min capacity maximum_length) (new_length size n)
 
 -- adding a field with a body of n octets refuses by 7, then 44
-unfoldable pub add_tests : List ℕ → ℕ → ℕ → Tests AddAnswer
+unfoldable pub add_tests : List ℕ → ℕ → ℕ → Tests ℕ
 add_tests buffer size n =
-    packet_length_wrong if ltb (length buffer) size else
-    packet_length_wrong if is_malformed (take size buffer) else
-    field_not_added if ltb 0 (length (after_fields (take size buffer))) else
-    field_not_added if no_room (length buffer) size n else
-    otherwise (AddAnswer.Added (new_length size n))
+    PacketLengthWrong if ltb (length buffer) size else
+    PacketLengthWrong if is_malformed (take size buffer) else
+    FieldNotAdded if ltb 0 (length (after_fields (take size buffer))) else
+    FieldNotAdded if no_room (length buffer) size n else
+    otherwise (new_length size n)
 
-abbrev pub added : List ℕ → ℕ → List ℕ → AddAnswer
-added buffer size body = answer AddAnswer.Refused (add_tests buffer size (length body))
+-- the packet's new length
+abbrev pub added : List ℕ → ℕ → List ℕ → Result ℕ Refusal
+added buffer size body = given (add_tests buffer size (length body))
 
 -- the packet, the field, and the octets behind it as they were
 abbrev pub with_field : List ℕ → ℕ → ℕ → List ℕ → List ℕ

@@ -2,92 +2,83 @@
 #![tactic(auto)]
 
 ghost use Rattle.std.specs.Prelude.{◌≡◌, ◌+◌, ◌≤◌, length};
-ghost use Rattle.std.proofs.lemmas.List.Edits.{sets};
-ghost use Rattle.ordered_tests.specs.Tests.{number};
-ghost use Rattle.extension.specs.Tail.{maximum_length};
-ghost use Rattle.extension_writer.specs.Writer.{filled_length, filled_to, new_length, no_room, add_tests, added, with_field, added_buffer};
+ghost use Rattle.ordered_tests.specs.Tests.{given};
+ghost use Rattle.extension.specs.Tail.{maximum_length, octets_of};
+ghost use Rattle.extension_writer.specs.Writer.{filled_length, filled_to, new_field, no_room, add_tests, added, added_buffer};
 
-// What adding a field answers: a refusal, or the packet's new length.
-#[derive(Clone, Copy)]
-pub enum AddAnswer {
-    Refused(u8),
-    Added(usize),
-}
+use refusals::Refusal;
 
 // The length of a body of n octets with its fill.
+#[tactic(auto, unfolding(crate::specs::Writer::filled_length))]
 fn filled_length(n: usize) -> usize
     requires { n ≤ maximum_length }
     ensures { result ≡ filled_length n }
 {
-    let m = (n + 3) / 4 * 4;
-    if 24 < m { m } else { 24 }
+    n.next_multiple_of(4).max(24)
 }
 
 // A field with a body of n octets has no room behind a packet of so many, in a buffer of this capacity or in 1024 octets.
+#[tactic(auto, unfolding(crate::specs::Writer::no_room, crate::specs::Writer::filled_length))]
 fn no_room(capacity: usize, size: usize, n: usize) -> bool
     ensures { result ≡ no_room capacity size n }
 {
-    let limit = slices::least(capacity, extension::MAXIMUM_LENGTH);
-    if extension::MAXIMUM_LENGTH < n {
-        return true;
-    }
-    if limit < size {
-        return true;
-    }
-    limit - size < 4 + filled_length(n)
+    let limit = capacity.min(extension::MAXIMUM_LENGTH);
+    n > extension::MAXIMUM_LENGTH || limit.saturating_sub(size) < 4 + filled_length(n)
 }
 
-// Stores a body and its fill, n octets, from index at on.
-fn store_filled(b: &mut [u8], at: usize, body: &[u8], n: usize)
-    requires { (at + n ≤ length b.old) × (length body.now ≤ n) }
-    ensures { b.new ≡ sets b.old at (filled_to n body.now) }
-{
-    let mut i = 0;
-    while i < n {
-        b[at + i] = slices::octet_or_zero(body, i);
-        i += 1;
-    }
-}
-
-// Stores a field from index at on, and returns the index behind it.
-fn store_field(b: &mut [u8], at: usize, field_type: u16, body: &[u8]) -> usize
-    requires { (new_length at (length body.now) ≤ length b.old) × (new_length at (length body.now) ≤ maximum_length) }
-    ensures value { result ≡ new_length at (length body.now) }
-    ensures b_after { b.new ≡ with_field b.old at field_type body.now }
-{
-    let n = filled_length(body.len());
-    slices::write_be32(b, at, (field_type as u32) * 65536 + ((4 + n) as u32));
-    store_filled(b, at + 4, body, n);
-    at + (4 + n)
-}
-
-// The number of the first test that refuses, or 0.
-fn first_refusal(buffer: &[u8], size: usize, n: usize) -> u8
-    ensures { result ≡ number (add_tests buffer.now size n) }
+// The length of the packet with a field of a body of n octets, or why it is not added.
+#[tactic(auto, using(crate::proofs::Fill::holds), unfolding(crate::specs::Writer::add_tests, crate::specs::Writer::no_room))]
+fn new_length(buffer: &[u8], size: usize, n: usize) -> Result<usize, Refusal>
+    ensures { result ≡ given (add_tests buffer.now size n) }
 {
     if buffer.len() < size {
-        return refusals::PACKET_LENGTH_WRONG;
+        return Err(Refusal::PacketLengthWrong);
     }
-    if extension::is_malformed(&buffer[..size]) {
-        return refusals::PACKET_LENGTH_WRONG;
+    let packet = &buffer[..size];
+    if extension::is_malformed(packet) {
+        return Err(Refusal::PacketLengthWrong);
     }
-    if extension::octets_after_fields(&buffer[..size]) != 0 {
-        return refusals::FIELD_NOT_ADDED;
+    if extension::octets_after_fields(packet) != 0 {
+        return Err(Refusal::FieldNotAdded);
     }
     if no_room(buffer.len(), size, n) {
-        return refusals::FIELD_NOT_ADDED;
+        return Err(Refusal::FieldNotAdded);
     }
-    0
+    Ok(size + (4 + filled_length(n)))
 }
 
-// Adds a field at the end of the packet that is the first octets of the buffer, as many as size says. Every octet outside the field stays.
-pub fn add(buffer: &mut [u8], size: usize, field_type: u16, body: &[u8]) -> AddAnswer
+// Stores a body and its fill. One loop, since `copy_from_slice` and `fill` call memmove and memset, which a caller in C may not have.
+#[tactic(auto, using(crate::proofs::Fill::filled))]
+fn store_filled(octets: &mut [u8], body: &[u8])
+    requires { length body.now ≤ length octets.old }
+    ensures { octets.new ≡ filled_to (length octets.old) body.now }
+{
+    for (i, octet) in octets.iter_mut().enumerate() {
+        *octet = body.get(i).copied().unwrap_or(0);
+    }
+}
+
+// Stores a field into a slice of its length.
+#[tactic(auto, using(crate::proofs::Fill::holds, crate::proofs::Adding::field_put))]
+fn store_field(field: &mut [u8], field_type: u16, body: &[u8])
+    requires length { length field.old ≡ 4 + filled_length (length body.now) }
+    requires small { length field.old ≤ maximum_length }
+    ensures { field.new ≡ octets_of (new_field field_type body.now) }
+{
+    let length = field.len() as u32;
+    let (head, octets) = field.split_at_mut(4);
+    slices::write_be32(head, 0, u32::from(field_type) * 65536 + length);
+    store_filled(octets, body);
+}
+
+// Adds a field at the end of the packet, and gives the packet's new length. Every octet outside the field stays. The packet is the buffer's first octets, as many
+// as size says; those behind it are the room. C and the promises have the buffer and the size apart.
+#[tactic(auto, using(crate::proofs::Adding::part_within, crate::proofs::Adding::part_length, crate::proofs::Adding::part_small, crate::proofs::Adding::stored))]
+pub fn add(buffer: &mut [u8], size: usize, field_type: u16, body: &[u8]) -> Result<usize, Refusal>
     ensures value { result ≡ added buffer.old size body.now }
     ensures buffer_after { buffer.new ≡ added_buffer buffer.old size field_type body.now }
 {
-    let refusal = first_refusal(buffer, size, body.len());
-    if refusal != 0 {
-        return AddAnswer::Refused(refusal);
-    }
-    AddAnswer::Added(store_field(buffer, size, field_type, body))
+    let new = new_length(buffer, size, body.len())?;
+    store_field(&mut buffer[size..new], field_type, body);
+    Ok(new)
 }

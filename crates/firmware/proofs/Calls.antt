@@ -1,33 +1,28 @@
 -- What reading an image says of it, and an answer slice after a refusal.
-use mathlib.Core.Path.{◌≡◌, refl}
-use mathlib.Core.Bool.{Bool, true, false, cond}
-use mathlib.Core.List.{List}
-use Prim.Native.Nat.{ℕ}
-use native.Mathlib.Omega.{arith}
+use Rattle.std.proofs.Common.{◌≡◌, refl, ℕ, Bool, true, false, cond, List, length}
 use lib.Dec.{eqb}
-use lib.ListN.{length}
+use Rattle.std.specs.Prelude.{None, Some}
 use Rattle.client.specs.declared.Client.{Client}
 use Rattle.client.specs.Calls.{refused}
 use Rattle.firmware_layouts.specs.Image.{is_image, record_in, image_read}
 use Rattle.firmware_layouts.specs.Answer.{answer_in, with_answer}
-use Rattle.firmware_layouts.specs.declared.ImageAnswer.{ImageAnswer}
 
 module _ (image : List ℕ) where
-  pub no_image : image_read image ≡ ImageAnswer.NotLegal → is_image image ≡ false
+  pub no_image : image_read image ≡ None → is_image image ≡ false
   unfolding image_read
   no_image q = go (is_image image) refl
     where
       go : (b : Bool) → is_image image ≡ b → is_image image ≡ false
-      go true e = let r = simp e at q in let z : ◌≡◌ {A = ℕ} 0 1 = cc in absurd (omega arith)
+      go true e = absurd (cc (rw e at q))
       go false e = e
 
-  pub an_image : (c : Client) → image_read image ≡ ImageAnswer.Client c → (is_image image ≡ true) × (record_in image ≡ c)
+  pub an_image : (c : Client) → image_read image ≡ Some c → (is_image image ≡ true) × (record_in image ≡ c)
   unfolding image_read
   an_image c q = go (is_image image) refl
     where
       go : (b : Bool) → is_image image ≡ b → (is_image image ≡ true) × (record_in image ≡ c)
-      go true e = let r = simp e at q in (e, cc)
-      go false e = let r = simp e at q in let z : ◌≡◌ {A = ℕ} 0 1 = cc in absurd (omega arith)
+      go true e = let r = rw e at q in (e, cc)
+      go false e = absurd (cc (rw e at q))
 
 either_way : (b : Bool) (x : List ℕ) → x ≡ cond b x x
 either_way true x = refl

@@ -1,6 +1,7 @@
 -- The client for C: its calls on an image (docs/C.md).
 use Rattle.std.specs.Prelude.{ℕ, min, Bool, true, cond, not, ◌&&◌, List, [], eqb, length}
-use Rattle.refusals.specs.Numbers.{image_not_legal}
+use Rattle.refusals.specs.declared.Refusal.TheVariants.{ImageNotLegal}
+use Rattle.refusals.specs.Numbers as refusals
 use Rattle.ordered_tests.specs.Tests.{Tests, ◌if◌else◌, otherwise, answer}
 use Rattle.timestamp.specs.Timestamp.{timestamp}
 use Rattle.token.specs.Token as tokens
@@ -16,11 +17,11 @@ use Rattle.firmware.specs.Numbers.{yes, number_of}
 
 abbrev pub fresh_tests : List ℕ → Tests ℕ
 fresh_tests image =
-    image_not_legal if not (eqb (length image) 32) else
+    ImageNotLegal if not (eqb (length image) 32) else
     otherwise 0
 
 abbrev pub fresh_number : List ℕ → ℕ
-fresh_number image = answer (λ n. n) (fresh_tests image)
+fresh_number image = answer refusals.number (fresh_tests image)
 
 abbrev pub fresh_image : List ℕ → List ℕ
 fresh_image image = with_image image fresh
@@ -56,15 +57,15 @@ outcome image x = calls.step (record_in image) (inner x)
 -- 46 before anything else
 abbrev pub image_tests : {A : Type 0} → List ℕ → LentCall → Tests A → Tests A
 image_tests image x rest =
-    image_not_legal if not (admitted image x) else
+    ImageNotLegal if not (admitted image x) else
     rest
 
 -- the number that the call returns
 unfoldable pub number : List ℕ → LentCall → ℕ
-number image x = answer (λ n. n) (image_tests image x (otherwise (number_of (outcome image x).result)))
+number image x = answer refusals.number (image_tests image x (otherwise (number_of (outcome image x).result)))
 
 -- the image after it: a refusal leaves it as it was, anything else puts the next record's there
-abbrev pub next_image : List ℕ → calls.Result → Client → List ℕ
+abbrev pub next_image : List ℕ → calls.Told → Client → List ℕ
 next_image image (calls.refused n) c = image
 next_image image calls.done c = with_image image c
 next_image image (calls.accepted offset half delay) c = with_image image c

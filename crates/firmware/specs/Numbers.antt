@@ -1,8 +1,9 @@
 -- Numbers that are wider in C than in the calls, and the number that a call returns (docs/C.md).
-use Rattle.std.specs.Prelude.{ℕ, Bool, cond, not, eqb, ℤ, pos, negsuc}
+use Rattle.std.specs.Prelude.{ℕ, Bool, cond, not, eqb, ℤ, pos, negsuc, Result, Ok, Err}
 use Rattle.std.specs.Int.Signed.{lt_z}
-use Rattle.client.specs.Calls.{Result, refused, done, accepted, kiss}
-use Rattle.server.specs.declared.ReplyAnswer.{ReplyAnswer}
+use Rattle.refusals.specs.declared.Refusal.{Refusal}
+use Rattle.refusals.specs.Numbers.{number}
+use Rattle.client.specs.Calls.{Told, refused, done, accepted, kiss}
 
 -- a number for yes or no is no at 0, else yes
 abbrev pub yes : ℕ → Bool
@@ -13,12 +14,12 @@ abbrev pub narrow_signed : ℤ → ℤ
 narrow_signed n = cond (lt_z n (negsuc 127)) (negsuc 127) (cond (lt_z (pos 127) n) (pos 127) n)
 
 -- 0 where nothing is refused
-abbrev pub number_of : Result → ℕ
+abbrev pub number_of : Told → ℕ
 number_of (refused n) = n
 number_of done = 0
 number_of (accepted offset half delay) = 0
 number_of (kiss code row) = 0
 
-abbrev pub replied_number : ReplyAnswer → ℕ
-replied_number (ReplyAnswer.Refused n) = n
-replied_number ReplyAnswer.Written = 0
+abbrev pub replied_number : {A : Type 0} → Result A Refusal → ℕ
+replied_number (Err r) = number r
+replied_number (Ok a) = 0

@@ -1,20 +1,35 @@
 // The client on an image. Every call refuses by 46 before anything else. A refused call returns its number and writes nothing.
-ghost use Rattle.std.specs.Prelude.{◌≡◌};
-ghost use Rattle.client.specs.Calls.{said_call, said_arrival};
-ghost use Rattle.firmware_layouts.specs.Answer.{with_answer};
-ghost use Rattle.firmware.specs.Numbers.{number_of};
-ghost use Rattle.firmware.specs.Client.{fresh_number, fresh_image, ask, arrival, give_up, number, next_image, image_after, buffer_after, answer_after};
+ghost use Rattle.std.specs.Prelude.{◌≡◌, false, true, MatchResult};
+ghost use Rattle.refusals.specs.declared.Refusal.TheVariants.{ImageNotLegal};
+ghost use Rattle.ordered_tests.specs.Tests.{kept_of};
+ghost use Rattle.firmware_layouts.specs.Image.{is_image, record_in, with_image};
+ghost use Rattle.firmware.specs.Numbers.{replied_number};
+ghost use Rattle.firmware.specs.Client.{fresh_number, fresh_image, ask, arrival, give_up, number, image_after, buffer_after, answer_after};
 
-use crate::numbers::narrow;
-use client::{Arrived, CallAnswer, Called, Client};
-use firmware_layouts::{
-    ANSWER, IMAGE, ImageAnswer, read_image, write_accepted, write_image, write_kiss,
-};
-use reply_checks::ArrivalAnswer;
+use crate::numbers::{narrow, replied_number};
+use client::{Called, Client};
+use firmware_layouts::{ANSWER, IMAGE, read_image, write_answer, write_image};
+use refusals::Refusal;
 use timestamp::Timestamp;
 use token::Token;
 
-const IMAGE_NOT_LEGAL: u32 = refusals::IMAGE_NOT_LEGAL as u32;
+// The record of an image.
+#[tactic(auto, unfolding(firmware_layouts::specs::Image::image_read))]
+pub fn record_of(image: &[u8]) -> Result<Client, Refusal>
+    ensures { MatchResult result (λ c. (is_image image.now ≡ true) × (record_in image.now ≡ c)) (λ r. (is_image image.now ≡ false) × (r ≡ ImageNotLegal)) }
+{
+    read_image(image).ok_or(Refusal::ImageNotLegal)
+}
+
+// The end of an ask or a give-up: the next record is put in the image, unless the call is refused.
+fn end(image: &mut [u8], called: Called<()>) -> Result<(), Refusal>
+    ensures answer { result ≡ called.answer }
+    ensures image { image.new ≡ kept_of called.answer image.old (with_image image.old called.client) }
+{
+    called.answer?;
+    write_image(image, called.client);
+    Ok(())
+}
 
 // The image of a client that has never asked.
 pub fn pongulvesz_fresh(image: &mut [u8]) -> u32
@@ -22,51 +37,65 @@ pub fn pongulvesz_fresh(image: &mut [u8]) -> u32
     ensures image { image.new ≡ fresh_image image.old }
 {
     if image.len() != IMAGE {
-        return IMAGE_NOT_LEGAL;
+        return u32::from(Refusal::ImageNotLegal.number());
     }
     write_image(image, Client::fresh());
     0
 }
 
-// The end of an ask or a give-up.
-fn end_call(image: &mut [u8], called: Called) -> u32
-    ensures number { result ≡ number_of (said_call called.answer) }
-    ensures image { image.new ≡ next_image image.old (said_call called.answer) called.client }
+#[tactic(auto, unfolding(crate::specs::Client::number, crate::specs::Client::image_after, crate::specs::Client::buffer_after))]
+fn ask(
+    image: &mut [u8],
+    buffer: &mut [u8],
+    version: u32,
+    clock: u64,
+    token: u64,
+    uptime: u64,
+) -> Result<(), Refusal>
+    ensures number { replied_number result ≡ number image.old (ask buffer.old version clock token uptime) }
+    ensures image { image.new ≡ image_after image.old (ask buffer.old version clock token uptime) }
+    ensures buffer { buffer.new ≡ buffer_after image.old (ask buffer.old version clock token uptime) }
 {
-    let answer = called.answer;
-    match answer {
-        CallAnswer::Refused(number) => number as u32,
-        CallAnswer::Done => {
-            write_image(image, called.client);
-            0
-        }
-    }
+    let client = record_of(image)?;
+    let called = client.ask(
+        buffer,
+        narrow(version),
+        Timestamp::from_units(clock),
+        Token(token),
+        uptime,
+    );
+    end(image, called)
 }
 
-// The end of an arrival.
-fn end_arrival(image: &mut [u8], answer: &mut [u8], arrived: Arrived) -> u32
-    ensures number { result ≡ number_of (said_arrival arrived.answer) }
-    ensures image { image.new ≡ next_image image.old (said_arrival arrived.answer) arrived.client }
-    ensures answer { answer.new ≡ with_answer answer.old (said_arrival arrived.answer) }
+#[tactic(auto, using(crate::proofs::Calls::kept), unfolding(crate::specs::Client::number, crate::specs::Client::image_after, crate::specs::Client::answer_after))]
+fn arrival(
+    image: &mut [u8],
+    answer: &mut [u8],
+    t4: u64,
+    alternate: u32,
+    packet: &[u8],
+) -> Result<(), Refusal>
+    ensures number { replied_number result ≡ number image.old (arrival answer.old t4 alternate packet.now) }
+    ensures image { image.new ≡ image_after image.old (arrival answer.old t4 alternate packet.now) }
+    ensures answer { answer.new ≡ answer_after image.old (arrival answer.old t4 alternate packet.now) }
 {
-    let told = arrived.answer;
-    match told {
-        ArrivalAnswer::Refused(number) => number as u32,
-        ArrivalAnswer::Accepted {
-            offset,
-            half,
-            delay,
-        } => {
-            write_accepted(answer, offset, half, delay);
-            write_image(image, arrived.client);
-            0
-        }
-        ArrivalAnswer::Kiss { code, row } => {
-            write_kiss(answer, code, row);
-            write_image(image, arrived.client);
-            0
-        }
+    let client = record_of(image)?;
+    if answer.len() != ANSWER {
+        return Err(Refusal::ImageNotLegal);
     }
+    let called = client.arrival(packet, Timestamp::from_units(t4), alternate != 0);
+    write_answer(answer, called.answer?);
+    write_image(image, called.client);
+    Ok(())
+}
+
+#[tactic(auto, unfolding(crate::specs::Client::number, crate::specs::Client::image_after, crate::specs::Client::buffer_after))]
+fn give_up(image: &mut [u8], uptime: u64) -> Result<(), Refusal>
+    ensures number { replied_number result ≡ number image.old (give_up uptime) }
+    ensures image { image.new ≡ image_after image.old (give_up uptime) }
+{
+    let client = record_of(image)?;
+    end(image, client.give_up(uptime))
 }
 
 // `Client::ask`: the client request of RFC 4330, section 5.
@@ -82,17 +111,7 @@ pub fn pongulvesz_ask(
     ensures image { image.new ≡ image_after image.old (ask buffer.old version clock token uptime) }
     ensures buffer { buffer.new ≡ buffer_after image.old (ask buffer.old version clock token uptime) }
 {
-    let ImageAnswer::Client(client) = read_image(image) else {
-        return IMAGE_NOT_LEGAL;
-    };
-    let called = client.ask(
-        buffer,
-        narrow(version),
-        Timestamp::from_units(clock),
-        Token(token),
-        uptime,
-    );
-    end_call(image, called)
+    u32::from(replied_number(ask(image, buffer, version, clock, token, uptime)))
 }
 
 // `Client::arrival`: the client's checks of a server reply (RFC 4330, section 5). `alternate` tells whether an alternate server exists: 0 is no.
@@ -107,14 +126,7 @@ pub fn pongulvesz_arrival(
     ensures image { image.new ≡ image_after image.old (arrival answer.old t4 alternate packet.now) }
     ensures answer { answer.new ≡ answer_after image.old (arrival answer.old t4 alternate packet.now) }
 {
-    let ImageAnswer::Client(client) = read_image(image) else {
-        return IMAGE_NOT_LEGAL;
-    };
-    if answer.len() != ANSWER {
-        return IMAGE_NOT_LEGAL;
-    }
-    let arrived = client.arrival(packet, Timestamp::from_units(t4), alternate != 0);
-    end_arrival(image, answer, arrived)
+    u32::from(replied_number(arrival(image, answer, t4, alternate, packet)))
 }
 
 // `Client::give_up`: the request has timed out (RFC 4330, section 10).
@@ -122,9 +134,5 @@ pub fn pongulvesz_give_up(image: &mut [u8], uptime: u64) -> u32
     ensures number { result ≡ number image.old (give_up uptime) }
     ensures image { image.new ≡ image_after image.old (give_up uptime) }
 {
-    let ImageAnswer::Client(client) = read_image(image) else {
-        return IMAGE_NOT_LEGAL;
-    };
-    let called = client.give_up(uptime);
-    end_call(image, called)
+    u32::from(replied_number(give_up(image, uptime)))
 }

@@ -6,6 +6,7 @@ use crate::numbers::{narrow, narrow_signed, replied_number};
 use server_packet::Settings;
 use timestamp::Timestamp;
 
+// The five come one by one, as the C interface passes them.
 pub fn settings_of(
     synchronised: u32,
     leap: u32,
@@ -47,5 +48,5 @@ pub fn pongulvesz_reply(
         Timestamp::from_units(t3),
         buffer,
     );
-    replied_number(answer) as u32
+    u32::from(replied_number(answer))
 }

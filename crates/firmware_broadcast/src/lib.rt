@@ -1,16 +1,15 @@
-// Broadcast for C (docs/C.md). Of a refusal the number is all: what a call would write stays as it was.
+// Broadcast for C (docs/C.md). A refused call returns its number and writes nothing.
 #![tactic(auto)]
 
 ghost use Rattle.std.specs.Prelude.{◌≡◌, length};
 ghost use Rattle.timestamp.specs.Timestamp as timestamps;
 ghost use Rattle.broadcast.specs.Broadcast.{broadcast_arrived};
+ghost use Rattle.firmware.specs.Numbers.{replied_number};
 ghost use Rattle.firmware.specs.Server.{settings};
-ghost use Rattle.firmware_broadcast.specs.Broadcast.{write_number, write_answer, buffer_after, arrival_number, difference_after};
+ghost use Rattle.firmware_broadcast.specs.Broadcast.{write_answer, buffer_after, difference_after};
 
-use broadcast::BroadcastAnswer;
-use firmware::numbers::narrow;
+use firmware::numbers::{narrow, replied_number};
 use firmware::server_calls::settings_of;
-use packet::WriteAnswer;
 use timestamp::Timestamp;
 
 // `broadcast::write`. Refusals, in order: 1, 22, 23, 41, and when synchronised 14.
@@ -25,32 +24,30 @@ pub fn pongulvesz_broadcast(
     t3: u64,
     buffer: &mut [u8],
 ) -> u32
-    ensures number { result ≡ write_number (write_answer (settings synchronised leap precision identifier reference) version poll t3 (length buffer.old)) }
+    ensures number { result ≡ replied_number (write_answer (settings synchronised leap precision identifier reference) version poll t3 (length buffer.old)) }
     ensures buffer { buffer.new ≡ buffer_after (settings synchronised leap precision identifier reference) version poll t3 buffer.old }
 {
     let set = settings_of(synchronised, leap, precision, identifier, reference);
-    match broadcast::write(
+    let answer = broadcast::write(
         set,
         narrow(version),
         narrow(poll),
         Timestamp::from_units(t3),
         buffer,
-    ) {
-        WriteAnswer::Refused(number) => number as u32,
-        WriteAnswer::Written => 0,
-    }
+    );
+    u32::from(replied_number(answer))
 }
 
 // `broadcast::arrival`. Refusals, in order: 7, 36, 37, 38, 39, 40, 3, 43.
 pub fn pongulvesz_broadcast_arrival(t4: u64, packet: &[u8], difference: &mut i64) -> u32
-    ensures number { result ≡ arrival_number (broadcast_arrived packet.now (timestamps.timestamp t4)) }
+    ensures number { result ≡ replied_number (broadcast_arrived packet.now (timestamps.timestamp t4)) }
     ensures difference { difference.new ≡ difference_after difference.old (broadcast_arrived packet.now (timestamps.timestamp t4)) }
 {
     match broadcast::arrival(packet, Timestamp::from_units(t4)) {
-        BroadcastAnswer::Refused(number) => number as u32,
-        BroadcastAnswer::Difference(units) => {
+        Ok(units) => {
             *difference = units;
             0
         }
+        Err(refusal) => u32::from(refusal.number()),
     }
 }

@@ -1,19 +1,15 @@
 -- Dates for C (docs/C.md).
-use Rattle.std.specs.Prelude.{ℕ, min}
+use Rattle.std.specs.Prelude.{min, Result}
+use Rattle.refusals.specs.declared.Refusal.{Refusal}
 use Rattle.calendar.specs.declared.Date.{Date}
-use Rattle.calendar.specs.declared.DateAnswer.{DateAnswer}
 use Rattle.calendar.specs.Dates.{date}
+use Rattle.firmware_times.specs.Times.{after}
 
 -- ---- the date of a timestamp
 
-abbrev pub date_number : DateAnswer → ℕ
-date_number (DateAnswer.Refused n) = n
-date_number (DateAnswer.Date d) = 0
-
 -- the seven numbers lent, as a date: they are the answer's, or stay
-abbrev pub date_after : Date → DateAnswer → Date
-date_after lent (DateAnswer.Refused n) = lent
-date_after lent (DateAnswer.Date d) = d
+abbrev pub date_after : Date → Result Date Refusal → Date
+date_after = after (λ d. d)
 
 -- ---- the timestamp of a date
 

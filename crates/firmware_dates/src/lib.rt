@@ -1,14 +1,15 @@
-// Dates for C (docs/C.md). Of a refusal the number is all: what a call would write stays as it was.
+// Dates for C (docs/C.md). A refused call returns its number and writes nothing.
+// Each call ends in a match: one function for the end, with a closure that stores, is no plainer.
 #![tactic(auto)]
 
 ghost use Rattle.std.specs.Prelude.{◌≡◌};
 ghost use Rattle.timestamp.specs.Timestamp as timestamps;
 ghost use Rattle.calendar.specs.Dates.{date};
 ghost use Rattle.calendar.specs.Calendar.{date_of, timestamp_of};
-ghost use Rattle.firmware_times.specs.Times.{timestamp_number, timestamp_after};
-ghost use Rattle.firmware_dates.specs.Dates.{date_number, date_after, narrowed};
+ghost use Rattle.firmware_times.specs.Times.{number_of, timestamp_after};
+ghost use Rattle.firmware_dates.specs.Dates.{date_after, narrowed};
 
-use calendar::{Date, DateAnswer, TimestampAnswer};
+use calendar::Date;
 use firmware::numbers::narrow;
 use timestamp::Timestamp;
 
@@ -23,22 +24,22 @@ pub fn pongulvesz_date(
     second: &mut u32,
     fraction: &mut u32,
 ) -> u32
-    ensures number { result ≡ date_number (date_of (timestamps.timestamp timestamp)) }
+    ensures number { result ≡ number_of (date_of (timestamps.timestamp timestamp)) }
     ensures date { date year.new month.new day.new hour.new minute.new second.new fraction.new
         ≡ date_after (date year.old month.old day.old hour.old minute.old second.old fraction.old) (date_of (timestamps.timestamp timestamp)) }
 {
     match calendar::date_of_timestamp(Timestamp::from_units(timestamp)) {
-        DateAnswer::Refused(number) => number as u32,
-        DateAnswer::Date(d) => {
+        Ok(d) => {
             *year = d.year;
-            *month = d.month as u32;
-            *day = d.day as u32;
-            *hour = d.hour as u32;
-            *minute = d.minute as u32;
-            *second = d.second as u32;
+            *month = u32::from(d.month);
+            *day = u32::from(d.day);
+            *hour = u32::from(d.hour);
+            *minute = u32::from(d.minute);
+            *second = u32::from(d.second);
             *fraction = d.fraction;
             0
         }
+        Err(refusal) => u32::from(refusal.number()),
     }
 }
 
@@ -76,15 +77,15 @@ pub fn pongulvesz_timestamp_of_date(
     fraction: u32,
     timestamp: &mut u64,
 ) -> u32
-    ensures number { result ≡ timestamp_number (timestamp_of (narrowed (date year month day hour minute second fraction))) }
+    ensures number { result ≡ number_of (timestamp_of (narrowed (date year month day hour minute second fraction))) }
     ensures timestamp { timestamp.new ≡ timestamp_after timestamp.old (timestamp_of (narrowed (date year month day hour minute second fraction))) }
 {
     let d = narrowed_date(year, month, day, hour, minute, second, fraction);
     match calendar::timestamp_of_date(d) {
-        TimestampAnswer::Refused(number) => number as u32,
-        TimestampAnswer::Timestamp(t) => {
+        Ok(t) => {
             *timestamp = t.0;
             0
         }
+        Err(refusal) => u32::from(refusal.number()),
     }
 }

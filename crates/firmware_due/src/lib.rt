@@ -4,19 +4,18 @@
 ghost use Rattle.std.specs.Prelude.{◌≡◌};
 ghost use Rattle.firmware_due.specs.Due.{ask_due, give_up_due, number_of, uptime_after};
 
-use due::{Due, ask_due, give_up_due};
-use firmware_layouts::{ImageAnswer, read_image};
-
-const IMAGE_NOT_LEGAL: u32 = refusals::IMAGE_NOT_LEGAL as u32;
+use due::{ask_due, give_up_due};
+use firmware::client_calls::record_of;
+use refusals::Refusal;
 
 // The end of both calls.
-fn tell(due: Due, uptime: &mut u64) -> u32
+fn tell(due: Result<u64, Refusal>, uptime: &mut u64) -> u32
     ensures number { result ≡ number_of due }
     ensures uptime { uptime.new ≡ uptime_after uptime.old due }
 {
     match due {
-        Due::Refused(number) => number as u32,
-        Due::At(first) => {
+        Err(refusal) => u32::from(refusal.number()),
+        Ok(first) => {
             *uptime = first;
             0
         }
@@ -24,23 +23,19 @@ fn tell(due: Due, uptime: &mut u64) -> u32
 }
 
 // `due::ask_due`: the first uptime at which an ask is not refused by 6. Refusals, in order: 46, 4, 5, 6.
+#[tactic(auto, unfolding(crate::specs::Due::ask_due, due::specs::Due::ask_due))]
 pub fn pongulvesz_ask_due(image: &[u8], uptime: &mut u64) -> u32
     ensures number { result ≡ number_of (ask_due image.now) }
     ensures uptime { uptime.new ≡ uptime_after uptime.old (ask_due image.now) }
 {
-    let ImageAnswer::Client(client) = read_image(image) else {
-        return IMAGE_NOT_LEGAL;
-    };
-    tell(ask_due(client), uptime)
+    tell(record_of(image).and_then(ask_due), uptime)
 }
 
 // `due::give_up_due`: the first uptime at which a give-up is not refused by 20. Refusals, in order: 46, 8, 20.
+#[tactic(auto, unfolding(crate::specs::Due::give_up_due, due::specs::Due::give_up_due))]
 pub fn pongulvesz_give_up_due(image: &[u8], uptime: &mut u64) -> u32
     ensures number { result ≡ number_of (give_up_due image.now) }
     ensures uptime { uptime.new ≡ uptime_after uptime.old (give_up_due image.now) }
 {
-    let ImageAnswer::Client(client) = read_image(image) else {
-        return IMAGE_NOT_LEGAL;
-    };
-    tell(give_up_due(client), uptime)
+    tell(record_of(image).and_then(give_up_due), uptime)
 }

@@ -1,26 +1,25 @@
-// Extension fields for C (docs/C.md). Of a refusal the number is all: what a call would write stays as it was.
+// Extension fields for C (docs/C.md). A refused call returns its number and writes nothing. C has no Result and no Option: a call returns
+// the number and stores its answer, and `found` is 0 or 1.
 #![tactic(auto)]
 
 ghost use Rattle.std.specs.Prelude.{◌≡◌};
 ghost use Rattle.extension.specs.Reader as reader;
-ghost use Rattle.firmware_fields.specs.Fields.{begin_number, cursor_after, next_number, numbers, numbers_after, add_number, add_answer, size_after, buffer_after};
+ghost use Rattle.firmware_fields.specs.Fields.{number_of, cursor_after, numbers, numbers_after, add_answer, size_after, buffer_after};
 
-use extension::{BeginAnswer, Cursor, NextAnswer};
-use extension_writer::AddAnswer;
-
-const FIELD_TOO_LARGE: u32 = refusals::FIELD_TOO_LARGE as u32;
+use extension::Cursor;
+use refusals::Refusal;
 
 // `extension::begin`. Refusals: 7.
 pub fn pongulvesz_fields(packet: &[u8], cursor: &mut usize) -> u32
-    ensures number { result ≡ begin_number (reader.begun packet.now) }
+    ensures number { result ≡ number_of (reader.begun packet.now) }
     ensures cursor { cursor.new ≡ cursor_after cursor.old (reader.begun packet.now) }
 {
     match extension::begin(packet) {
-        BeginAnswer::Refused(number) => number as u32,
-        BeginAnswer::Begun(first) => {
+        Ok(first) => {
             *cursor = first.at;
             0
         }
+        Err(malformed) => u32::from(malformed.number()),
     }
 }
 
@@ -33,30 +32,25 @@ pub fn pongulvesz_next_field(
     start: &mut usize,
     end: &mut usize,
 ) -> u32
-    ensures number { result ≡ next_number (reader.next packet.now (reader.cursor cursor.old)) }
+    ensures number { result ≡ number_of (reader.next packet.now (reader.cursor cursor.old)) }
     ensures numbers { numbers cursor.new found.new field_type.new start.new end.new
         ≡ numbers_after (numbers cursor.old found.old field_type.old start.old end.old) (reader.next packet.now (reader.cursor cursor.old)) }
 {
     let at = *cursor;
     match extension::next(packet, Cursor { at }) {
-        NextAnswer::Field {
-            field_type: of_type,
-            start: first,
-            end: last,
-            next,
-        } => {
-            *cursor = next.at;
+        Ok(Some(field)) => {
+            *cursor = field.next.at;
             *found = 1;
-            *field_type = of_type as u32;
-            *start = first;
-            *end = last;
+            *field_type = u32::from(field.field_type);
+            *start = field.start;
+            *end = field.end;
             0
         }
-        NextAnswer::Done => {
+        Ok(None) => {
             *found = 0;
             0
         }
-        NextAnswer::Refused(number) => number as u32,
+        Err(refusal) => u32::from(refusal.number()),
     }
 }
 
@@ -67,19 +61,19 @@ pub fn pongulvesz_add_field(
     field_type: u32,
     body: &[u8],
 ) -> u32
-    ensures number { result ≡ add_number (add_answer buffer.old size.old field_type body.now) }
+    ensures number { result ≡ number_of (add_answer buffer.old size.old field_type body.now) }
     ensures size { size.new ≡ size_after size.old (add_answer buffer.old size.old field_type body.now) }
     ensures buffer { buffer.new ≡ buffer_after buffer.old size.old field_type body.now }
 {
-    if 65535 < field_type {
-        return FIELD_TOO_LARGE;
-    }
+    let Ok(field_type) = u16::try_from(field_type) else {
+        return u32::from(Refusal::FieldTooLarge.number());
+    };
     let length = *size;
-    match extension_writer::add(buffer, length, field_type as u16, body) {
-        AddAnswer::Refused(number) => number as u32,
-        AddAnswer::Added(new) => {
+    match extension_writer::add(buffer, length, field_type, body) {
+        Ok(new) => {
             *size = new;
             0
         }
+        Err(refusal) => u32::from(refusal.number()),
     }
 }

@@ -23,7 +23,7 @@ use Rattle.client.specs.Record.{illegal}
 use Rattle.client.proofs.Exponent.{exponents}
 use Rattle.firmware_layouts.specs.Image.{octet_of_phase, octet_of_flag, image_of, phase_of, record_in, has_legal_values, is_image, image_read, with_image}
 use Rattle.firmware_layouts.specs.Laws.{Typed, IsImageOf, Laws}
-use Rattle.firmware_layouts.specs.declared.ImageAnswer.{ImageAnswer}
+use Rattle.std.specs.Prelude.{Some}
 use Rattle.firmware_layouts.proofs.Layouts.{length_image}
 
 phase_back : (p : Phase) → phase_of (octet_of_phase p) ≡ p
@@ -127,8 +127,8 @@ unfolding image_read
 image_has image c q = go (is_image image) refl
   where
     go : (b : Bool) → is_image image ≡ b → Has image × (record_in image ≡ c)
-    go true e = let r = simp e at q in ((tested image).from ((is_true (is_image image)).to e), cc)
-    go false e = let r = simp e at q in let z : ◌≡◌ {A = ℕ} 0 1 = cc in absurd (omega arith)
+    go true e = let r = rw e at q in ((tested image).from ((is_true (is_image image)).to e), cc)
+    go false e = absurd (cc (rw e at q))
 
 octet_of_phase_lem : (n : ℕ) → n ≤ 2 → octet_of_phase (phase_of n) ≡ n
 octet_of_phase_lem zero h = refl
@@ -182,7 +182,7 @@ module _ (image : List ℕ) (h : Has image) (o : AreOctets image) where
 
 pub laws : Laws
 laws = record {
-  has_image = λ c k l. unfold image_read in rw ((is_true (is_image (image_of c))).from ((tested (image_of c)).to (has c k l))) (ap ImageAnswer.Client (record_back c k l));
+  has_image = λ c k l. unfold image_read in rw ((is_true (is_image (image_of c))).from ((tested (image_of c)).to (has c k l))) (ap Some (record_back c k l));
   one_image = λ image c o q. let (h, e) = image_has image c q in sym (image_back image h o) ∙ ap image_of e;
   is_legal = λ image c o q. let (h, e) = image_has image c q in subst (λ d. (illegal d ≡ false) × Typed d) e (h.legal, typed image h o);
   one_record = λ image c d p q. sym (image_has image c p).1 ∙ (image_has image d q).1;

@@ -1,5 +1,5 @@
 -- The image of a client record: 32 octets (docs/C.md, "Layouts").
-use Rattle.std.specs.Prelude.{ℕ, ◌+◌, ◌-◌, Bool, cond, not, ◌&&◌, List, [], ◌∷◌, ◌++◌, eqb, leb, length, get_or}
+use Rattle.std.specs.Prelude.{ℕ, ◌+◌, ◌-◌, Bool, cond, not, ◌&&◌, List, [], ◌∷◌, ◌++◌, eqb, leb, length, get_or, Option, None, Some}
 use Rattle.arithmetic.specs.Octets.{octets}
 use Rattle.slices.specs.Slices.{read_at}
 use Rattle.timestamp.specs.Timestamp.{timestamp}
@@ -8,7 +8,6 @@ use Rattle.client.specs.declared.Phase.{Phase}
 use Rattle.client.specs.declared.Phase.TheVariants.{Idle, Waiting, Stopped}
 use Rattle.client.specs.declared.Client.{Client}
 use Rattle.client.specs.Record.{illegal}
-use Rattle.firmware_layouts.specs.declared.ImageAnswer.{ImageAnswer}
 
 -- 0 phase (0 idle, 1 waiting, 2 stopped), 1 version, 2 ever asked (0 or 1), 3 the exponent less 6, 4 to 7 zero, 8 to 15 T1, 16 to 23 token, 24 to 31 uptime
 abbrev pub octet_of_phase : Phase → ℕ
@@ -49,8 +48,8 @@ has_legal_values image = leb (get_or image 0 0) 2 && leb (get_or image 2 0) 1 &&
 unfoldable pub is_image : List ℕ → Bool
 is_image image = eqb (length image) 32 && has_legal_values image && not (illegal (record_in image))
 
-unfoldable pub image_read : List ℕ → ImageAnswer
-image_read image = cond (is_image image) (ImageAnswer.Client (record_in image)) ImageAnswer.NotLegal
+unfoldable pub image_read : List ℕ → Option Client
+image_read image = cond (is_image image) (Some (record_in image)) None
 
 -- ---- written
 

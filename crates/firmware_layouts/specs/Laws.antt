@@ -1,10 +1,9 @@
 -- Records and images: each legal record has one image, and each image is that of one legal record.
-use Rattle.std.specs.Prelude.{◌≡◌, List, false, ℕ, ◌^◌, ◌<◌, replicate}
+use Rattle.std.specs.Prelude.{◌≡◌, List, false, ℕ, ◌^◌, ◌<◌, replicate, Some}
 use Rattle.arithmetic.specs.Octets.{AreOctets}
 use Rattle.client.specs.declared.Client.{Client}
 use Rattle.client.specs.Record.{fresh, illegal}
 use Rattle.firmware_layouts.specs.Image.{image_of, image_read}
-use Rattle.firmware_layouts.specs.declared.ImageAnswer.{ImageAnswer}
 
 -- the record's 64-bit numbers are values of their types; what the others are is the legal record's
 pub record Typed (c : Client) : Type 0 where
@@ -14,7 +13,7 @@ pub record Typed (c : Client) : Type 0 where
 
 -- the octets are an image, that of this record
 abbrev pub IsImageOf : List ℕ → Client → Type 0
-IsImageOf image c = image_read image ≡ ImageAnswer.Client c
+IsImageOf image c = image_read image ≡ Some c
 
 pub record Laws : Type 0 where
   -- each legal record has an image

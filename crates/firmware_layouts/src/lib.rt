@@ -1,15 +1,17 @@
 // The octets that C lends to a call: the image of a client record, and the answer of an arrival (docs/C.md, "Layouts").
 #![tactic(auto)]
 
-ghost use Rattle.std.specs.Prelude.{◌≡◌, [], ◌∷◌, ◌++◌, ◌≤◌, ◌-◌, leb, length, get_or};
+ghost use Rattle.std.specs.Prelude.{◌≡◌, [], ◌∷◌, ◌++◌, ◌≤◌, length, get_or};
 ghost use Rattle.std.proofs.lemmas.List.Edits.{sets};
 ghost use Rattle.arithmetic.specs.Octets.{octets};
-ghost use Rattle.client.specs.Calls.{accepted, kiss};
+ghost use Rattle.client.specs.Calls.{said_arrival};
 ghost use Rattle.firmware_layouts.specs.Image.{phase_of, octet_of_phase, octet_of_flag, record_in, has_legal_values, image_read, image_of, with_image};
 ghost use Rattle.firmware_layouts.specs.Answer.{with_answer};
 
 use client::{Client, Phase};
 use octets::be32;
+use offset::Measurement;
+use reply_checks::ArrivalAnswer;
 use slices::{octet_or_zero, read_be32, read_be64, write_be32, write_be64};
 use timestamp::Timestamp;
 use token::Token;
@@ -20,28 +22,21 @@ pub const IMAGE: usize = 32;
 
 pub const ANSWER: usize = 24;
 
-#[derive(Clone, Copy)]
-pub enum ImageAnswer {
-    NotLegal,
-    Client(Client),
-}
-
 // ---- the image, read
 
-// Any other octet than 0 and 1 is taken for stopped. In this order the compiler finds that the octets 0 to 2 are the phases' own numbers.
+// Any other octet than 0 and 1 is taken for stopped: it cannot fail, so it is no `TryFrom`.
 pub fn phase_of(octet: u8) -> Phase
     ensures { result ≡ phase_of octet }
 {
-    if 1 < octet {
-        return Phase::Stopped;
+    match octet {
+        0 => Phase::Idle,
+        1 => Phase::Waiting,
+        _ => Phase::Stopped,
     }
-    if octet == 1 {
-        return Phase::Waiting;
-    }
-    Phase::Idle
 }
 
 // The octets that have few values have one of them.
+#[tactic(auto, unfolding(crate::specs::Image::has_legal_values))]
 fn has_legal_values(image: &[u8]) -> bool
     ensures { result ≡ has_legal_values image.now }
 {
@@ -51,6 +46,7 @@ fn has_legal_values(image: &[u8]) -> bool
         & (read_be32(image, 4) == 0)
 }
 
+#[tactic(auto, unfolding(crate::specs::Image::record_in))]
 fn record(image: &[u8]) -> Client
     requires { get_or image.now 3 0 ≤ 8 }
     ensures { result ≡ record_in image.now }
@@ -67,25 +63,21 @@ fn record(image: &[u8]) -> Client
 }
 
 // The record whose image this is, where there is a legal one.
-pub fn read_image(image: &[u8]) -> ImageAnswer
+#[tactic(auto, unfolding(crate::specs::Image::image_read, crate::specs::Image::is_image, crate::specs::Image::has_legal_values))]
+pub fn read_image(image: &[u8]) -> Option<Client>
     ensures { result ≡ image_read image.now }
 {
-    if image.len() != IMAGE {
-        return ImageAnswer::NotLegal;
-    }
-    if !has_legal_values(image) {
-        return ImageAnswer::NotLegal;
+    if image.len() != IMAGE || !has_legal_values(image) {
+        return None;
     }
     let client = record(image);
-    if client.illegal() {
-        return ImageAnswer::NotLegal;
-    }
-    ImageAnswer::Client(client)
+    (!client.illegal()).then_some(client)
 }
 
 // ---- both, written
 
 // Stores four octets and a number of four.
+#[tactic(auto, using(slices::proofs::Slices::put_room, packet::proofs::Packet::octets_four, arithmetic::proofs::Octets::sets_append))]
 fn put_head(b: &mut [u8], x0: u8, x1: u8, x2: u8, x3: u8, number: u32)
     requires { 8 ≤ length b.old }
     ensures { b.new ≡ sets b.old 0 ((x0 ∷ x1 ∷ x2 ∷ x3 ∷ []) ++ octets 4 number) }
@@ -97,37 +89,25 @@ fn put_head(b: &mut [u8], x0: u8, x1: u8, x2: u8, x3: u8, number: u32)
 pub fn phase_octet(phase: Phase) -> u8
     ensures { result ≡ octet_of_phase phase }
 {
-    match phase {
-        Phase::Idle => 0,
-        Phase::Waiting => 1,
-        Phase::Stopped => 2,
-    }
+    phase as u8
 }
 
 pub fn flag_octet(flag: bool) -> u8
     ensures { result ≡ octet_of_flag flag }
 {
-    if flag { 1 } else { 0 }
-}
-
-fn above_six(exponent: u8) -> u8
-    ensures { result ≡ exponent - 6 }
-{
-    if exponent < 6 { 0 } else { exponent - 6 }
+    u8::from(flag)
 }
 
 // Stores the image of a record.
-fn put_image(b: &mut [u8], client: Client)
-    requires { 32 ≤ length b.old }
-    ensures { b.new ≡ sets b.old 0 (image_of client) }
+fn put_image(b: &mut [u8; IMAGE], client: Client)
+    ensures { b.new ≡ image_of client }
 {
-    let phase = client.phase;
     put_head(
         b,
-        phase_octet(phase),
+        phase_octet(client.phase),
         client.version,
         flag_octet(client.asked),
-        above_six(client.exponent),
+        client.exponent.saturating_sub(6),
         0,
     );
     write_be64(b, 8, client.t1.0);
@@ -139,35 +119,35 @@ fn put_image(b: &mut [u8], client: Client)
 pub fn write_image(image: &mut [u8], client: Client)
     ensures { image.new ≡ with_image image.old client }
 {
-    if image.len() == IMAGE {
+    if let Some(image) = image.as_mut_array() {
         put_image(image, client);
     }
 }
 
 // Stores the octets of an answer.
-fn put_answer(b: &mut [u8], kind: u8, half: u8, row: u8, code: u32, offset: u64, delay: u64)
-    requires { 24 ≤ length b.old }
-    ensures { b.new ≡ sets b.old 0 ((kind ∷ half ∷ row ∷ 0 ∷ []) ++ octets 4 code ++ octets 8 offset ++ octets 8 delay) }
+fn put_answer(b: &mut [u8; ANSWER], kind: u8, half: u8, row: u8, code: u32, offset: u64, delay: u64)
+    ensures { b.new ≡ (kind ∷ half ∷ row ∷ 0 ∷ []) ++ octets 4 code ++ octets 8 offset ++ octets 8 delay }
 {
     put_head(b, kind, half, row, 0, code);
     write_be64(b, 8, offset);
     write_be64(b, 16, delay);
 }
 
-// Writes the answer of an accepted reply into a slice of the answer's length, and nothing into any other.
-pub fn write_accepted(answer: &mut [u8], offset: i64, half: u8, delay: i64)
-    ensures { answer.new ≡ with_answer answer.old (accepted offset half delay) }
+// Writes what an arrival tells into a slice of the answer's length, and nothing into any other.
+#[tactic(auto, using(crate::proofs::Layouts::takes_answer), unfolding(crate::specs::Answer::answer_in, arithmetic::specs::Octets::octets))]
+pub fn write_answer(answer: &mut [u8], told: ArrivalAnswer)
+    ensures { answer.new ≡ with_answer answer.old (said_arrival (Ok told)) }
 {
-    if answer.len() == ANSWER {
-        put_answer(answer, 1, half, 0, 0, bits64(offset), bits64(delay));
-    }
-}
-
-// The same for a kiss.
-pub fn write_kiss(answer: &mut [u8], code: u32, row: u8)
-    ensures { answer.new ≡ with_answer answer.old (kiss code row) }
-{
-    if answer.len() == ANSWER {
-        put_answer(answer, 2, 0, row, code, 0, 0);
+    if let Some(answer) = answer.as_mut_array() {
+        match told {
+            ArrivalAnswer::Accepted(
+                Measurement {
+                    offset,
+                    half,
+                    delay,
+                },
+            ) => put_answer(answer, 1, half, 0, 0, bits64(offset), bits64(delay)),
+            ArrivalAnswer::Kiss { code, row } => put_answer(answer, 2, 0, row, code, 0, 0),
+        }
     }
 }

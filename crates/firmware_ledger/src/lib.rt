@@ -1,45 +1,41 @@
-// The ledger for C (docs/C.md): the record is its debt. Of a refusal the number is all: what a call would write stays as it was.
+// The ledger for C (docs/C.md): the record is its debt. A refused call returns its number and writes nothing.
+// Each call ends in a match: one function for the end, with a closure that stores, is no plainer.
 #![tactic(auto)]
 
 ghost use Rattle.std.specs.Prelude.{◌≡◌};
-ghost use Rattle.ledger.specs.Ledger.{number_in_entry, number_in_tick};
-ghost use Rattle.firmware_ledger.specs.Ledger.{entry_of, tick_of, paid_after};
+ghost use Rattle.firmware_ledger.specs.Ledger.{number_of, entry_of, tick_of, paid_after};
 
 use firmware::numbers::narrow;
-use ledger::{EntryAnswer, Ledger, TickAnswer};
+use ledger::Ledger;
 
 // `Ledger::entry`. Refusals, in order: 29, 30, 31.
 pub fn pongulvesz_entry(debt: &mut i64, offset: i64, half: u32) -> u32
-    ensures number { result ≡ number_in_entry (entry_of debt.old offset half).answer }
+    ensures number { result ≡ number_of (entry_of debt.old offset half).answer }
     ensures debt { debt.new ≡ (entry_of debt.old offset half).ledger.debt }
 {
     let owed = *debt;
     let entered = Ledger { debt: owed }.entry(offset, narrow(half));
-    let next = entered.ledger.debt;
-    *debt = next;
-    let answer = entered.answer;
-    match answer {
-        EntryAnswer::Refused(number) => number as u32,
-        EntryAnswer::Taken => 0,
+    *debt = entered.ledger.debt;
+    match entered.answer {
+        Ok(()) => 0,
+        Err(refusal) => u32::from(refusal.number()),
     }
 }
 
 // `Ledger::tick`. Refusals, in order: 29, 32.
 pub fn pongulvesz_tick(debt: &mut i64, limit: u64, paid: &mut i64) -> u32
-    ensures number { result ≡ number_in_tick (tick_of debt.old limit).answer }
+    ensures number { result ≡ number_of (tick_of debt.old limit).answer }
     ensures debt { debt.new ≡ (tick_of debt.old limit).ledger.debt }
     ensures paid { paid.new ≡ paid_after paid.old (tick_of debt.old limit).answer }
 {
     let owed = *debt;
     let ticked = Ledger { debt: owed }.tick(limit);
-    let left = ticked.ledger.debt;
-    *debt = left;
-    let answer = ticked.answer;
-    match answer {
-        TickAnswer::Refused(number) => number as u32,
-        TickAnswer::Paid(units) => {
+    *debt = ticked.ledger.debt;
+    match ticked.answer {
+        Ok(units) => {
             *paid = units;
             0
         }
+        Err(refusal) => u32::from(refusal.number()),
     }
 }

@@ -2,18 +2,17 @@
 use mathlib.Core.Path.{◌≡◌, refl, ap, ◌∙◌}
 use mathlib.Core.Bool.{true}
 use mathlib.Core.List.{List, [], ◌∷◌, ◌++◌}
-use Prim.Native.Nat.{ℕ, ◌*◌, ◌/◌, ◌%◌}
+use Prim.Native.Nat.{◌*◌, ◌%◌}
 use native.Mathlib.Omega.{arith}
 use borrow.Author.Tests.{eq-eqb}
 use lib.ListN.{length, take, drop, length-append}
 use lib.Seq.{take_at, drop_at}
 use Rattle.client.specs.declared.Client.{Client}
-use Rattle.firmware_layouts.specs.Image.{is_image, record_in, image_of}
-use Rattle.firmware_layouts.specs.declared.ImageAnswer.{ImageAnswer}
+use Rattle.firmware_layouts.specs.Image.{image_of}
 use Rattle.firmware_layouts.proofs.Layouts.{length_image}
 use Rattle.firmware_layouts.proofs.Laws as layouts
 use Rattle.firmware.proofs.Calls.{an_image}
-use Rattle.firmware_list.specs.Images.{count, are_images, is_list, records_of, records_in, images_of}
+use Rattle.firmware_list.specs.Images.{count, are_images, is_list, records_of, images_of}
 use Rattle.firmware_list.specs.Calls.{number, list_after, in_use_after, buffer_after, answer_after}
 use Rattle.firmware_list.specs.Laws.{EachLegal, Laws}
 use Rattle.firmware_list.proofs.Records.{is_images}

@@ -4,7 +4,7 @@ use mathlib.Core.Bool.{Bool, true, false, ◌&&◌}
 use mathlib.Core.List.{List, ◌++◌, append_assoc}
 use Prim.Native.Nat.{ℕ, suc, ◌+◌, ◌-◌, ◌*◌, ◌%◌, ◌≤◌, ◌<◌}
 use native.Mathlib.Omega.{arith}
-use borrow.Author.Tests.{lt-ltb, eq-eqb, ne_eqb, eqb-true, eqb-false}
+use borrow.Author.Tests.{lt-ltb, le-ltb, eq-eqb, ne_eqb, eqb-true, eqb-false}
 use borrow.Rule.Slice.PartMut.{put_mid}
 use lib.Dec.{T, eqb}
 use lib.ListN.{length, get_or, set, take, drop, length-drop}
@@ -89,3 +89,7 @@ put_image list at c x inside is =
     let e = rw (span at) at is ∙ with_image_lem (take 32 (drop (32 * at) list)) c n in
     rw (lt-ltb at (count list) inside, span at, e)
     (ap (λ rest. take (32 * at) list ++ (image_of c ++ rest)) (drop-drop 32 (32 * at) list) ∙ sym (append_assoc (take (32 * at) list) (image_of c) (drop (32 * at + 32) list)))
+
+pub past_end : (list : List ℕ) (at : ℕ) (c : Client) → count list ≤ at → list ≡ with_record list at c
+unfolding with_record
+past_end list at c past = rw (le-ltb at (count list) past)

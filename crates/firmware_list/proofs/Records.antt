@@ -1,38 +1,38 @@
 -- A list that 46 does not refuse: its records by their numbers, and their images, which are the list.
-use mathlib.Core.Path.{◌≡◌, refl, sym, ap, subst, ◌∙◌}
+use mathlib.Core.Path.{◌≡◌, refl, sym, ap, ◌∙◌}
 use mathlib.Core.Bool.{Bool, true, false, ◌&&◌}
 use mathlib.Core.List.{List, [], ◌∷◌, ◌++◌, append_assoc}
-use Prim.Native.Nat.{ℕ, zero, suc, ◌+◌, ◌*◌, ◌/◌, ◌%◌, ◌≤◌, ◌<◌, min}
+use Prim.Native.Nat.{ℕ, zero, suc, ◌+◌, ◌*◌, ◌%◌, ◌≤◌, ◌<◌, min}
 use native.Mathlib.Nat.{le_of_suc-le-suc, not-suc-le-zero}
 use native.Mathlib.Omega.{arith}
 use borrow.Author.Tests.{eqb-true, ltb-true, ltb-false, leb-true, leb-false, le-leb}
 use lib.Dec.{eqb, ltb, leb}
-use lib.ListN.{length, get_or, set, take, drop, length-drop, take-append-drop, length-set, get_or-eq_default, get_or-append}
-use lib.Seq.{drop-drop, get_or-drop, take_at, drop_at, take-append-add, drop-append-add, set_out, get_or-set_same, get_or-take, ext_get_or, length-take-le}
+use lib.ListN.{length, get_or, set, take, drop, length-drop, take-append-drop, length-set, get_or-append}
+use lib.Seq.{drop-drop, get_or-drop, drop_at, take-append-add, drop-append-add, set_out, get_or-set_same, get_or-take, ext_get_or, length-take-le}
 use Rattle.arithmetic.specs.Octets.{part, AreOctets}
 use Rattle.arithmetic.proofs.Octets.{are_part}
 use Rattle.client.specs.declared.Client.{Client}
 use Rattle.client.specs.Record.{fresh}
 use Rattle.client.specs.declared.Called.{Called}
-use Rattle.client.specs.Arrival.{arrived}
-use Rattle.client.specs.Calls.{Result, refused, done, accepted, kiss, said_call, said_arrival}
-use Rattle.refusals.specs.Numbers.{not_in_list, record_not_legal}
-use Rattle.ordered_tests.specs.Tests.{Tests, ◌if◌else◌, otherwise, answer, kept, pass}
+use Rattle.client.specs.Calls.{said_call, said_arrival}
+use Rattle.std.specs.Prelude.{Result, Ok, Err}
+use Rattle.refusals.specs.declared.Refusal.{Refusal}
+use Rattle.refusals.specs.declared.Refusal.TheVariants.{NotInList, RecordNotLegal}
+use Rattle.ordered_tests.specs.Tests.{Tests, ◌if◌else◌, otherwise, answer, kept, kept_of, pass}
 use Rattle.ordered_tests.proofs.Reflection.{is_false}
 use Rattle.reply_checks.specs.declared.ArrivalAnswer.{ArrivalAnswer}
-use Rattle.client.specs.declared.CallAnswer.{CallAnswer}
 use Rattle.timestamp.specs.declared.Timestamp.{Timestamp}
 use Rattle.token.specs.declared.Token.{Token}
 use Rattle.association_rules.specs.InUse.{outside}
 use Rattle.association_rules.specs.declared.ListCalled.{ListCalled}
-use Rattle.association_rules.specs.declared.ListArrived.{ListArrived}
 use Rattle.association_rules.specs.Associations.{any_illegal, association, list_tests, called_for, list_after, buffer_after_ask, arrived_at, arrived_for, list_after_arrival}
-use Rattle.association_rules.proofs.Effects.{few, listed}
+use Rattle.association_rules.proofs.Lists.{few, listed}
 use Rattle.associations_by_value.specs.ByValue.{lent_count, lent_of, record_after}
 use Rattle.firmware_layouts.specs.Image.{is_image, record_in, image_of, image_read}
 use Rattle.firmware_layouts.proofs.Layouts.{length_image}
 use Rattle.firmware_layouts.proofs.Laws.{laws}
-use Rattle.firmware_list.specs.Images.{count, are_images, is_list, records_of, records_in, images_of, HoldsFirst, with_record, next_octets}
+use Rattle.firmware_list.specs.Images.{count, are_images, is_list, records_of, records_in, images_of, HoldsFirst, with_record}
+use Rattle.firmware.specs.Numbers.{number_of, replied_number}
 use Rattle.firmware_list.specs.Calls.{next_list}
 
 both : (a b : Bool) → a && b ≡ true → (a ≡ true) × (b ≡ true)
@@ -120,11 +120,21 @@ pub nothing_asked : (records : List Client) (at in_use : ℕ) (buffer : List ℕ
 unfolding buffer_after_ask
 nothing_asked records at in_use buffer version clock token uptime e = rw (e, empty at in_use)
 
+-- the number of a call that tells nothing but a refusal
+number_call : (a : Result (Unit {0}) Refusal) → number_of (said_call a) ≡ replied_number a
+number_call (Err r) = refl
+number_call (Ok u) = refl
+
+-- what is told of an arrival that is not refused has no number
+pub taken : (told : ArrivalAnswer) → 0 ≡ number_of (said_arrival (Ok told))
+taken (ArrivalAnswer.Accepted m) = refl
+taken (ArrivalAnswer.Kiss code row) = refl
+
 -- the tests before the client's own
 abbrev tests : {A : Type 0} → (b i : Bool) → Tests A → Tests A
 tests b i rest =
-    not_in_list if b else
-    record_not_legal if i else
+    NotInList if b else
+    RecordNotLegal if i else
     rest
 
 module _ (list : List ℕ) (is : is_list list ≡ true) where
@@ -175,24 +185,28 @@ module _ (list : List ℕ) (is : is_list list ≡ true) where
             let past = set_out (records_in list) at c (rw (length_records (count list) list) (ltb-false at (count list) e)) in
             without_record list at c e ∙ sym (ap images_of past ∙ is_images)
 
-    next_list_lem : (told : Result) (at : ℕ) (c : Client) → next_octets list told at c ≡ next_list list told (set (records_in list) at c)
-    next_list_lem (refused n) at c = refl
-    next_list_lem done at c = stored at c
-    next_list_lem (accepted offset half delay) at c = stored at c
-    next_list_lem (kiss code row) at c = stored at c
+    next_call : (a : Result (Unit {0}) Refusal) (cs : List Client) → next_list list (said_call a) cs ≡ kept_of a list (images_of cs)
+    next_call (Err r) cs = refl
+    next_call (Ok u) cs = refl
+
+    next_arrival : (a : Result ArrivalAnswer Refusal) (cs : List Client) → next_list list (said_arrival a) cs ≡ kept_of a list (images_of cs)
+    next_arrival (Err r) cs = refl
+    next_arrival (Ok (ArrivalAnswer.Accepted m)) cs = refl
+    next_arrival (Ok (ArrivalAnswer.Kiss code row)) cs = refl
 
     -- the record that is handed back is stored where the rules have it
-    nexts : {A : Type 0} (said : A → Result) (say : ℕ → A) → ((n : ℕ) → said (say n) ≡ refused n)
-        → (b i : Bool) (at : ℕ) (a : A) (c : Client) (rest : List Client) → (b ≡ false → (at < length (records_in list)) × (length (records_in list) ≤ 8))
-        → let told = said (answer say (tests b i (otherwise a))) in let left = kept (tests b i pass) (records_in list) (set (records_in list) at c) in
-        next_octets list told at (get_or (left ++ rest) (min at 7) fresh) ≡ next_list list told left
-    nexts said say refuses true i at a c rest inside = rw (refuses not_in_list)
-    nexts said say refuses false true at a c rest inside = rw (refuses record_not_legal)
-    nexts said say refuses false false at a c rest inside =
+    nexts : {A : Type 0} (b i : Bool) (at : ℕ) (a : Result A Refusal) (c : Client) (rest : List Client)
+        → (b ≡ false → (at < length (records_in list)) × (length (records_in list) ≤ 8))
+        → let told = answer Err (tests b i (otherwise a)) in let left = kept (tests b i pass) (records_in list) (set (records_in list) at c) in
+        kept_of told list (with_record list at (get_or (left ++ rest) (min at 7) fresh)) ≡ kept_of told list (images_of left)
+    nexts true i at a c rest inside = refl
+    nexts false true at a c rest inside = refl
+    nexts false false at (Err r) c rest inside = refl
+    nexts false false at (Ok a) c rest inside =
         let (there, short) = inside refl in
         let place : min at 7 ≡ at = omega arith in
         let same = get_or-append (set (records_in list) at c) rest fresh at (rw (length-set (records_in list) at c) there) ∙ get_or-set_same (records_in list) at c fresh there in
-        rw place (ap (next_octets list (said a) at) same ∙ next_list_lem (said a) at c)
+        rw (place, same) (stored at c)
 
     module _ (records : List Client) (eight : length records ≡ 8) (holds : HoldsFirst records (count list) list) (at in_use : ℕ) where
       abbrev lent : List Client
@@ -205,58 +219,70 @@ module _ (list : List ℕ) (is : is_list list ≡ true) where
       inside e = (listed (length (records_in list)) at in_use ((is_false _).to e), few (length (records_in list)) at in_use ((is_false _).to e))
 
       -- what a call on the records that were lent comes to is what the rules say of the list's
-      pub call_on_list : (f : Client → Called) (r : ListCalled) (c : Client)
-          → r ≡ called_for lent at in_use (f (association lent at))
-          → c ≡ record_after records (count list) (list_after lent at in_use (f (association lent at)).client) at
-          → let called = f (association (records_in list) at) in
-          (r ≡ called_for (records_in list) at in_use called)
-          × (next_octets list (said_call r.answer) at c
-          ≡ next_list list (said_call (called_for (records_in list) at in_use called).answer) (list_after (records_in list) at in_use called.client))
-      call_on_list f r c is-result is-client =
+      abbrev answer_on : {A : Type 0} → (List Client → Called A) → List Client → Result A Refusal
+      answer_on f l = answer Err (list_tests l at in_use (otherwise (f l).answer))
+
+      abbrev list_on : {A : Type 0} → (List Client → Called A) → List Client → List Client
+      list_on f l = list_after l at in_use (f l).client
+
+      same_answer : {A : Type 0} (f : List Client → Called A) → answer_on f lent ≡ answer_on f (records_in list)
+      same_answer f = one_of records eight holds at in_use (λ e. ap (answer_on f) e) (λ a b. rw (a, b))
+
+      same_list : {A : Type 0} (f : List Client → Called A) (c : Client) → c ≡ record_after records (count list) (list_on f lent) at
+          → let told = answer_on f (records_in list) in kept_of told list (with_record list at c) ≡ kept_of told list (images_of (list_on f (records_in list)))
+      same_list f c is =
           one_of records eight holds at in_use
           (λ e.
-          let whole = is-result ∙ ap (λ l. called_for l at in_use (f (association l at))) e in
-          let left = is-client ∙ ap (λ l. get_or (list_after l at in_use (f (association l at)).client ++ rest) (min at 7) fresh) e in
-          let called = f (association (records_in list) at) in (
-            whole,
-            rw (whole, left) (nexts said_call CallAnswer.Refused (λ n. refl) (outside (length (records_in list)) at in_use) (any_illegal (records_in list)) at called.answer called.client _ inside),
-          ))
-          (λ a b.
-          let refused-lent : r ≡ record { answer = CallAnswer.Refused not_in_list; in_use = in_use } = is-result ∙ rw a in
-          let called = f (association (records_in list) at) in
-          let refused-list : called_for (records_in list) at in_use called ≡ record { answer = CallAnswer.Refused not_in_list; in_use = in_use } = rw b in (
-            refused-lent ∙ sym refused-list,
-            ap (λ (z : ListCalled). next_octets list (said_call z.answer) at c) refused-lent
-                ∙ sym (ap (λ (z : ListCalled). next_list list (said_call z.answer) (list_after (records_in list) at in_use called.client)) refused-list),
-          ))
+          let left = is ∙ ap (λ l. get_or (list_on f l ++ rest) (min at 7) fresh) e in
+          let called = f (records_in list) in
+          rw left (nexts (outside (length (records_in list)) at in_use) (any_illegal (records_in list)) at called.answer called.client rest inside))
+          (λ a b. rw b)
 
-      pub buffer_on_list : (old : List ℕ) (f : Client → List ℕ)
+      pub same_buffer : (old : List ℕ) (f : Client → List ℕ)
           → kept (list_tests lent at in_use pass) old (f (association lent at))
           ≡ kept (list_tests (records_in list) at in_use pass) old (f (association (records_in list) at))
-      buffer_on_list old f =
+      same_buffer old f =
           one_of records eight holds at in_use (λ e. ap (λ l. kept (list_tests l at in_use pass) old (f (association l at))) e) (λ a b. rw (a, b))
 
-      pub arrival_on_list : (packet : List ℕ) (t4 : Timestamp) (r : ListArrived) (c : Client)
-          → r ≡ arrived_for lent at in_use packet t4
-          → c ≡ record_after records (count list) (list_after_arrival lent at in_use packet t4) at
-          → let told = arrived_for (records_in list) at in_use packet t4 in
-          (r ≡ told)
-          × (next_octets list (said_arrival r.answer) at c
-          ≡ next_list list (said_arrival told.answer) (list_after_arrival (records_in list) at in_use packet t4))
-      unfolding arrived_for list_after_arrival
-      arrival_on_list packet t4 r c is-result is-client =
-          one_of records eight holds at in_use
-          (λ e.
-          let whole = is-result ∙ ap (λ l. arrived_for l at in_use packet t4) e in
-          let left = is-client ∙ ap (λ l. get_or (list_after_arrival l at in_use packet t4 ++ rest) (min at 7) fresh) e in
-          let arrived = arrived_at (records_in list) at packet t4 in (
-            whole,
-            rw (whole, left) (nexts said_arrival ArrivalAnswer.Refused (λ n. refl) (outside (length (records_in list)) at in_use) (any_illegal (records_in list)) at arrived.answer arrived.client _ inside),
-          ))
-          (λ a b.
-          let refused-lent : r ≡ record { answer = ArrivalAnswer.Refused not_in_list; in_use = in_use } = is-result ∙ rw a in
-          let refused-list : arrived_for (records_in list) at in_use packet t4 ≡ record { answer = ArrivalAnswer.Refused not_in_list; in_use = in_use } = rw b in (
-            refused-lent ∙ sym refused-list,
-            ap (λ (z : ListArrived). next_octets list (said_arrival z.answer) at c) refused-lent
-                ∙ sym (ap (λ (z : ListArrived). next_list list (said_arrival z.answer) (list_after_arrival (records_in list) at in_use packet t4)) refused-list),
-          ))
+      same_in_use : (packet : List ℕ) (t4 : Timestamp) → (arrived_for lent at in_use packet t4).in_use ≡ (arrived_for (records_in list) at in_use packet t4).in_use
+      unfolding arrived_for
+      same_in_use packet t4 = one_of records eight holds at in_use (λ e. ap (λ l. (arrived_for l at in_use packet t4).in_use) e) (λ a b. rw (a, b))
+
+      -- ---- an ask or a give-up
+
+      module _ (f : Client → Called (Unit {0})) {r : ListCalled (Unit {0})} (is-result : r ≡ called_for lent at in_use (f (association lent at))) where
+        abbrev call : List Client → Called (Unit {0})
+        call l = f (association l at)
+
+        said : r.answer ≡ answer_on call (records_in list)
+        said = ap (λ (z : ListCalled (Unit {0})). z.answer) is-result ∙ same_answer call
+
+        pub call_number : {a : Result (Unit {0}) Refusal} → a ≡ r.answer → replied_number a ≡ number_of (said_call (answer_on call (records_in list)))
+        call_number e = ap replied_number (e ∙ said) ∙ sym (number_call (answer_on call (records_in list)))
+
+        pub call_list : {c : Client} → c ≡ record_after records (count list) (list_on call lent) at
+            → kept_of r.answer list (with_record list at c) ≡ next_list list (said_call (answer_on call (records_in list))) (list_on call (records_in list))
+        call_list {c} is-client =
+            ap (λ z. kept_of z list (with_record list at c)) said ∙ same_list call c is-client
+            ∙ sym (next_call (answer_on call (records_in list)) (list_on call (records_in list)))
+
+      -- ---- an arrival
+
+      module _ (packet : List ℕ) (t4 : Timestamp) {r : ListCalled ArrivalAnswer} (is-result : r ≡ arrived_for lent at in_use packet t4) where
+        abbrev arriving : List Client → Called ArrivalAnswer
+        arriving l = arrived_at l at packet t4
+
+        pub told_is : r.answer ≡ (arrived_for (records_in list) at in_use packet t4).answer
+        unfolding arrived_for
+        told_is = ap (λ (z : ListCalled ArrivalAnswer). z.answer) is-result ∙ same_answer arriving
+
+        pub in_use_is : r.in_use ≡ (arrived_for (records_in list) at in_use packet t4).in_use
+        in_use_is = ap (λ (z : ListCalled ArrivalAnswer). z.in_use) is-result ∙ same_in_use packet t4
+
+        pub arrival_list : {c : Client} → c ≡ record_after records (count list) (list_after_arrival lent at in_use packet t4) at
+            → kept_of r.answer list (with_record list at c)
+            ≡ next_list list (said_arrival (arrived_for (records_in list) at in_use packet t4).answer) (list_after_arrival (records_in list) at in_use packet t4)
+        unfolding arrived_for list_after_arrival
+        arrival_list {c} is-client =
+            ap (λ z. kept_of z list (with_record list at c)) told_is ∙ same_list arriving c is-client
+            ∙ sym (next_arrival (answer_on arriving (records_in list)) (list_on arriving (records_in list)))

@@ -1,11 +1,12 @@
 -- The calls for one record of a list, for C (docs/C.md).
 use Rattle.std.specs.Prelude.{ℕ, min, Bool, true, cond, not, ◌&&◌, List, [], eqb, length}
-use Rattle.refusals.specs.Numbers.{image_not_legal}
+use Rattle.refusals.specs.declared.Refusal.TheVariants.{ImageNotLegal}
+use Rattle.refusals.specs.Numbers as refusals
 use Rattle.ordered_tests.specs.Tests.{Tests, ◌if◌else◌, otherwise, answer}
 use Rattle.timestamp.specs.Timestamp.{timestamp}
 use Rattle.token.specs.Token as tokens
 use Rattle.client.specs.declared.Client.{Client}
-use Rattle.client.specs.Calls.{Result, refused, done, accepted, kiss, said_call, said_arrival}
+use Rattle.client.specs.Calls.{Told, refused, done, accepted, kiss, said_call, said_arrival}
 use Rattle.association_rules.specs.Associations as associations
 use Rattle.firmware_layouts.specs.Answer.{answer_in}
 use Rattle.firmware.specs.Numbers.{number_of}
@@ -19,7 +20,7 @@ pub data LentCall : Type 0 where
 
 -- what the inner call answers and leaves: the records, the number in use, and the buffer of an ask
 pub record Outcome : Type 0 where
-  pub result : Result
+  pub result : Told
   pub records : List Client
   pub in_use : ℕ
   pub octets : List ℕ
@@ -58,15 +59,15 @@ admitted list x = is_list list && slices_fit x
 -- 46 before anything else
 abbrev pub list_tests : {A : Type 0} → List ℕ → LentCall → Tests A → Tests A
 list_tests list x rest =
-    image_not_legal if not (admitted list x) else
+    ImageNotLegal if not (admitted list x) else
     rest
 
 -- the number that the call returns
 unfoldable pub number : List ℕ → (at in_use : ℕ) → LentCall → ℕ
-number list at in_use x = answer (λ n. n) (list_tests list x (otherwise (number_of (inner (records_in list) at in_use x).result)))
+number list at in_use x = answer refusals.number (list_tests list x (otherwise (number_of (inner (records_in list) at in_use x).result)))
 
 -- the list after it: a refusal leaves it as it was, anything else leaves the images of the records that the inner call leaves
-abbrev pub next_list : List ℕ → Result → List Client → List ℕ
+abbrev pub next_list : List ℕ → Told → List Client → List ℕ
 next_list list (refused n) records = list
 next_list list done records = images_of records
 next_list list (accepted offset half delay) records = images_of records

@@ -3,7 +3,6 @@ use Rattle.std.specs.Prelude.{ℕ, zero, suc, ◌+◌, ◌*◌, ◌/◌, ◌%◌
 use Rattle.arithmetic.specs.Octets.{part}
 use Rattle.client.specs.declared.Client.{Client}
 use Rattle.client.specs.Record.{fresh}
-use Rattle.client.specs.Calls.{Result, refused, done, accepted, kiss}
 use Rattle.firmware_layouts.specs.Image.{is_image, record_in, image_of}
 
 -- how many images there are
@@ -41,9 +40,3 @@ HoldsFirst records n list = (k : ℕ) → k < n → k < 8 → get_or records k f
 -- the list with this record's image in the place of a number; past its end nothing is stored
 unfoldable pub with_record : List ℕ → ℕ → Client → List ℕ
 with_record list at c = cond (ltb at (count list)) (take (32 * at) list ++ image_of c ++ drop (32 * at + 32) list) list
-
-abbrev pub next_octets : List ℕ → Result → ℕ → Client → List ℕ
-next_octets list (refused n) at c = list
-next_octets list done at c = with_record list at c
-next_octets list (accepted offset half delay) at c = with_record list at c
-next_octets list (kiss code row) at c = with_record list at c

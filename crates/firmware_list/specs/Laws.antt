@@ -1,7 +1,8 @@
 -- Lists of records and lists of images, and that each call agrees with the inner one. proofs/Laws.antt proves `Laws`.
 use Rattle.std.specs.Prelude.{◌≡◌, true, false, List, [], ◌∷◌, ℕ}
 use Rattle.arithmetic.specs.Octets.{AreOctets}
-use Rattle.refusals.specs.Numbers.{image_not_legal}
+use Rattle.refusals.specs.declared.Refusal.TheVariants.{ImageNotLegal}
+use Rattle.refusals.specs.Numbers as refusals
 use Rattle.client.specs.declared.Client.{Client}
 use Rattle.client.specs.Record.{illegal}
 use Rattle.firmware_layouts.specs.Laws.{Typed}
@@ -25,7 +26,7 @@ pub record Agrees (list : List ℕ) (at in_use : ℕ) (x : LentCall) : Type 0 wh
 
 -- the call changes nothing, and gives 46
 pub record Refuses (list : List ℕ) (at in_use : ℕ) (x : LentCall) : Type 0 where
-  pub number_is : number list at in_use x ≡ image_not_legal
+  pub number_is : number list at in_use x ≡ refusals.number ImageNotLegal
   pub list_is : list_after list at in_use x ≡ list
   pub in_use_is : in_use_after list at in_use x ≡ in_use
   pub buffer_is : buffer_after list at in_use x ≡ lent_buffer x

@@ -1,46 +1,28 @@
 // Images that stand one after another, read and written.
-ghost use Rattle.std.specs.Prelude.{◌≡◌, true, cond, length};
+ghost use Rattle.std.specs.Prelude.{◌≡◌, true, false, MatchResult, length};
+ghost use Rattle.refusals.specs.declared.Refusal.TheVariants.{ImageNotLegal};
 ghost use Rattle.firmware_list.specs.Images.{count, is_list, HoldsFirst, with_record};
 
 use client::Client;
-use firmware_layouts::{IMAGE, ImageAnswer, read_image, write_image};
+use firmware::client_calls::record_of;
+use firmware_layouts::{IMAGE, write_image};
+use refusals::Refusal;
 
-// The records of the first eight images, and whether the list is whole images, each that of a legal record. Each image is
-// read once.
-pub(crate) fn load(list: &[u8], legal: &mut bool) -> [Client; 8]
-    ensures records { (length result ≡ 8) × (is_list list.now ≡ true → HoldsFirst result (count list.now) list.now) }
-    ensures legal { legal.new ≡ is_list list.now }
+// Puts the records of the first eight images in their places. Each image is read once. The records are lent, since a Result of them would be copied.
+#[tactic(auto, using(crate::proofs::Lists::not_whole))]
+pub(crate) fn load(list: &[u8], records: &mut [Client; 8]) -> Result<(), Refusal>
+    ensures { MatchResult result (λ _. (is_list list.now ≡ true) × (length records.new ≡ 8) × HoldsFirst records.new (count list.now) list.now) (λ r. (is_list list.now ≡ false) × (r ≡ ImageNotLegal)) }
 {
-    let n = list.len() / IMAGE;
-    let mut records = [Client::fresh(); 8];
     if list.len() % IMAGE != 0 {
-        *legal = false;
-        return records;
+        return Err(Refusal::ImageNotLegal);
     }
-    let mut i = 0;
-    while i < n {
-        match read_image(&list[IMAGE * i..IMAGE * i + IMAGE]) {
-            ImageAnswer::NotLegal => {
-                *legal = false;
-                return records;
-            }
-            ImageAnswer::Client(client) => {
-                if i < 8 {
-                    records[i] = client;
-                }
-            }
+    for i in 0..list.len() / IMAGE {
+        let client = record_of(&list[IMAGE * i..IMAGE * i + IMAGE])?;
+        if i < 8 {
+            records[i] = client;
         }
-        i += 1;
     }
-    *legal = true;
-    records
-}
-
-// How many records are lent. A list that is not legal is lent as an empty one, which the inner call refuses; 46 is then returned in place of its number.
-pub(crate) fn count_of(list: &[u8], legal: bool) -> usize
-    ensures { result ≡ cond legal (count list.now) 0 }
-{
-    if legal { list.len() / IMAGE } else { 0 }
+    Ok(())
 }
 
 // Puts the image of a record in the place of a number; past the end of the list nothing is stored.

@@ -1,43 +1,41 @@
 -- What the calls for C on timestamps and on a packet's fields return and write, given what the inner call answers (docs/C.md).
-use Rattle.std.specs.Prelude.{ℕ, Bool, ◌||◌, List, [], ◌∷◌, ltb, ℤ, length, get_or}
+use Rattle.std.specs.Prelude.{ℕ, Bool, ◌||◌, List, [], ◌∷◌, ltb, ℤ, get_or, Option, None, Some, Result, Ok, Err}
 use Rattle.arithmetic.specs.TwosComplement.{signed, bits}
-use Rattle.refusals.specs.Numbers.{no_order, buffer_too_short, field_too_large}
-use Rattle.ordered_tests.specs.Tests.{Tests, ◌if◌else◌, otherwise, answer, kept, pass}
-use Rattle.timestamp.specs.Timestamp.{timestamp}
-use Rattle.timestamp.specs.declared.Difference.{Difference}
-use Rattle.offset.specs.declared.OffsetAnswer.{OffsetAnswer}
+use Rattle.refusals.specs.declared.Refusal.{Refusal}
+use Rattle.refusals.specs.declared.Refusal.TheVariants.{NoOrder, BufferTooShort, FieldTooLarge}
+use Rattle.refusals.specs.Numbers.{number}
+use Rattle.ordered_tests.specs.Tests.{Tests, ◌if◌else◌, given, kept}
+use Rattle.timestamp.specs.Timestamp.{timestamp, ◌since◌, ordered}
+use Rattle.offset.specs.declared.Measurement.{Measurement}
+use Rattle.offset.specs.Offset.{measured}
 use Rattle.packet.specs.declared.Fields.{Fields}
-use Rattle.packet.specs.declared.FieldsAnswer.{FieldsAnswer}
-use Rattle.packet.specs.declared.WriteAnswer.{WriteAnswer}
-use Rattle.packet.specs.Packet.{packet_length, write_answer, written}
+use Rattle.packet.specs.Packet as packet
 
 -- ---- two timestamps
 
-abbrev pub difference_number : Difference → ℕ
-difference_number Difference.NoOrder = no_order
-difference_number (Difference.Units units) = 0
+abbrev pub difference_of : (x y : ℕ) → Option ℤ
+difference_of x y = ordered (timestamp x since timestamp y)
 
-abbrev pub difference_after : ℤ → Difference → ℤ
-difference_after difference Difference.NoOrder = difference
-difference_after difference (Difference.Units units) = units
+abbrev pub difference_number : Option ℤ → ℕ
+difference_number None = number NoOrder
+difference_number (Some units) = 0
+
+abbrev pub difference_after : ℤ → Option ℤ → ℤ
+difference_after lent None = lent
+difference_after lent (Some units) = units
 
 -- ---- four timestamps
 
-abbrev pub measure_number : OffsetAnswer → ℕ
-measure_number (OffsetAnswer.Refused n) = n
-measure_number (OffsetAnswer.Measured offset half delay) = 0
+abbrev pub measure : (t1 t2 t3 t4 : ℕ) → Result Measurement Refusal
+measure t1 t2 t3 t4 = measured (timestamp t1) (timestamp t2) (timestamp t3) (timestamp t4)
 
-abbrev pub offset_after : ℤ → OffsetAnswer → ℤ
-offset_after offset (OffsetAnswer.Refused n) = offset
-offset_after offset (OffsetAnswer.Measured measured half delay) = measured
+-- the three numbers lent
+abbrev pub measurement : ℤ → ℕ → ℤ → Measurement
+measurement offset half delay = record { offset = offset; half = half; delay = delay }
 
-abbrev pub half_after : ℕ → OffsetAnswer → ℕ
-half_after half (OffsetAnswer.Refused n) = half
-half_after half (OffsetAnswer.Measured offset measured delay) = measured
-
-abbrev pub delay_after : ℤ → OffsetAnswer → ℤ
-delay_after delay (OffsetAnswer.Refused n) = delay
-delay_after delay (OffsetAnswer.Measured offset half measured) = measured
+abbrev pub measurement_after : Measurement → Result Measurement Refusal → Measurement
+measurement_after lent (Err r) = lent
+measurement_after lent (Ok m) = m
 
 -- ---- the fields of a packet, thirteen numbers
 
@@ -47,24 +45,18 @@ numbers_of f =
     f.leap ∷ f.version ∷ f.mode ∷ f.stratum ∷ f.poll ∷ bits 8 f.precision ∷ bits 32 f.root_delay ∷ f.root_dispersion ∷ f.identifier
     ∷ f.reference.0 ∷ f.originate.0 ∷ f.receive.0 ∷ f.transmit.0 ∷ []
 
-abbrev pub read_number : FieldsAnswer → ℕ
-read_number (FieldsAnswer.Refused n) = n
-read_number (FieldsAnswer.Fields f) = 0
-
-abbrev pub fields_after : List ℕ → FieldsAnswer → List ℕ
-fields_after numbers (FieldsAnswer.Refused n) = numbers
-fields_after numbers (FieldsAnswer.Fields f) = numbers_of f
+abbrev pub fields_after : List ℕ → Result Fields Refusal → List ℕ
+fields_after lent (Err r) = lent
+fields_after lent (Ok f) = numbers_of f
 
 abbrev pub at : ℕ → List ℕ → ℕ
 at i n = get_or n i 0
 
-abbrev pub is_above : (limit a b c : ℕ) → Bool
-is_above limit a b c = ltb limit a || ltb limit b || ltb limit c
-
 -- whether a number is over the 8 or 32 bits of its field
 abbrev pub too_wide : List ℕ → Bool
 too_wide n =
-    is_above 255 (at 0 n) (at 1 n) (at 2 n) || is_above 255 (at 3 n) (at 4 n) (at 5 n) || is_above 4294967295 (at 6 n) (at 7 n) (at 8 n)
+    ltb 255 (at 0 n) || ltb 255 (at 1 n) || ltb 255 (at 2 n) || ltb 255 (at 3 n) || ltb 255 (at 4 n) || ltb 255 (at 5 n)
+    || ltb 4294967295 (at 6 n) || ltb 4294967295 (at 7 n) || ltb 4294967295 (at 8 n)
 
 -- the fields that C writes
 unfoldable pub fields_in : List ℕ → Fields
@@ -84,19 +76,15 @@ fields_in n = record {
   transmit = timestamp (at 12 n);
 }
 
-abbrev pub number_of : WriteAnswer → ℕ
-number_of (WriteAnswer.Refused n) = n
-number_of WriteAnswer.Written = 0
+-- the refusals of the inner call, 1 and then 27; a number that is too wide for its field is refused by 27 too
+abbrev pub write_tests : (numbers buffer : List ℕ) → Tests (Unit {0})
+write_tests numbers buffer =
+    BufferTooShort if packet.too_short buffer else
+    FieldTooLarge if too_wide numbers else
+    packet.write_tests buffer (fields_in numbers)
 
--- the numbers of the inner call, 1 and then 27; a number that is too wide for its field is refused by 27 too
-abbrev pub write_tests : {A : Type 0} → (numbers buffer : List ℕ) → Tests A → Tests A
-write_tests numbers buffer rest =
-    buffer_too_short if ltb (length buffer) packet_length else
-    field_too_large if too_wide numbers else
-    rest
-
-abbrev pub write_number : (numbers buffer : List ℕ) → ℕ
-write_number numbers buffer = answer (λ n. n) (write_tests numbers buffer (otherwise (number_of (write_answer buffer (fields_in numbers)))))
+abbrev pub write_answer : (numbers buffer : List ℕ) → Result (Unit {0}) Refusal
+write_answer numbers buffer = given (write_tests numbers buffer)
 
 abbrev pub buffer_after : (numbers buffer : List ℕ) → List ℕ
-buffer_after numbers buffer = kept (write_tests numbers buffer pass) buffer (written buffer (fields_in numbers))
+buffer_after numbers buffer = kept (write_tests numbers buffer) buffer (packet.written buffer (fields_in numbers))

@@ -2,28 +2,26 @@
 #![tactic(auto)]
 
 ghost use Rattle.std.specs.Prelude.{◌≡◌, false};
-ghost use Rattle.timestamp.specs.Timestamp as timestamps;
-ghost use Rattle.timestamp.specs.Timestamp.{ordered, ◌since◌};
-ghost use Rattle.offset.specs.Offset.{measured};
 ghost use Rattle.packet.specs.Packet.{read_answer};
-ghost use Rattle.firmware_packets.specs.Packets.{difference_number, difference_after, measure_number, offset_after, half_after, delay_after, numbers_of, is_above, too_wide, fields_in, read_number, fields_after, write_number, buffer_after};
+ghost use Rattle.firmware_fields.specs.Fields.{number_of};
+ghost use Rattle.firmware_packets.specs.Packets.{difference_of, difference_number, difference_after, measurement, measure, measurement_after, numbers_of, fields_after, too_wide, fields_in, write_answer, buffer_after};
 
-use offset::OffsetAnswer;
-use packet::{Fields, FieldsAnswer, WriteAnswer};
-use timestamp::{Difference, Timestamp};
+use packet::Fields;
+use refusals::Refusal;
+use timestamp::Timestamp;
 use twos_complement::{bits8, bits32, signed8, signed32};
 
 // `timestamp::Timestamp::minus`. Refusals: 43.
 pub fn pongulvesz_difference(x: u64, y: u64, difference: &mut i64) -> u32
-    ensures number { result ≡ difference_number (ordered (timestamps.timestamp x since timestamps.timestamp y)) }
-    ensures difference { difference.new ≡ difference_after difference.old (ordered (timestamps.timestamp x since timestamps.timestamp y)) }
+    ensures number { result ≡ difference_number (difference_of x y) }
+    ensures difference { difference.new ≡ difference_after difference.old (difference_of x y) }
 {
     match Timestamp(x).minus(Timestamp(y)) {
-        Difference::NoOrder => refusals::NO_ORDER as u32,
-        Difference::Units(units) => {
+        Some(units) => {
             *difference = units;
             0
         }
+        None => u32::from(Refusal::NoOrder.number()),
     }
 }
 
@@ -37,24 +35,17 @@ pub fn pongulvesz_measure(
     half: &mut u32,
     delay: &mut i64,
 ) -> u32
-    ensures number { result ≡ measure_number (measured (timestamps.timestamp t1) (timestamps.timestamp t2) (timestamps.timestamp t3) (timestamps.timestamp t4)) }
-    ensures offset { offset.new ≡ offset_after offset.old (measured (timestamps.timestamp t1) (timestamps.timestamp t2) (timestamps.timestamp t3) (timestamps.timestamp t4)) }
-    ensures half { half.new ≡ half_after half.old (measured (timestamps.timestamp t1) (timestamps.timestamp t2) (timestamps.timestamp t3) (timestamps.timestamp t4)) }
-    ensures delay { delay.new ≡ delay_after delay.old (measured (timestamps.timestamp t1) (timestamps.timestamp t2) (timestamps.timestamp t3) (timestamps.timestamp t4)) }
+    ensures number { result ≡ number_of (measure t1 t2 t3 t4) }
+    ensures measurement { measurement offset.new half.new delay.new ≡ measurement_after (measurement offset.old half.old delay.old) (measure t1 t2 t3 t4) }
 {
-    let answer = offset::measure(Timestamp(t1), Timestamp(t2), Timestamp(t3), Timestamp(t4));
-    match answer {
-        OffsetAnswer::Refused(number) => number as u32,
-        OffsetAnswer::Measured {
-            offset: o,
-            half: h,
-            delay: d,
-        } => {
-            *offset = o;
-            *half = h as u32;
-            *delay = d;
+    match offset::measure(Timestamp(t1), Timestamp(t2), Timestamp(t3), Timestamp(t4)) {
+        Ok(measured) => {
+            *offset = measured.offset;
+            *half = u32::from(measured.half);
+            *delay = measured.delay;
             0
         }
+        Err(refusal) => u32::from(refusal.number()),
     }
 }
 
@@ -62,19 +53,20 @@ pub fn pongulvesz_measure(
 pub const FIELDS: usize = 13;
 
 // The fields as C reads them: precision and root delay, which are signed, by their bits.
+#[tactic(auto, unfolding(crate::specs::Packets::numbers_of))]
 fn numbers_of(fields: Fields) -> [u64; FIELDS]
     ensures { result ≡ numbers_of fields }
 {
     [
-        fields.leap as u64,
-        fields.version as u64,
-        fields.mode as u64,
-        fields.stratum as u64,
-        fields.poll as u64,
-        bits8(fields.precision) as u64,
-        bits32(fields.root_delay) as u64,
-        fields.root_dispersion as u64,
-        fields.identifier as u64,
+        u64::from(fields.leap),
+        u64::from(fields.version),
+        u64::from(fields.mode),
+        u64::from(fields.stratum),
+        u64::from(fields.poll),
+        u64::from(bits8(fields.precision)),
+        u64::from(bits32(fields.root_delay)),
+        u64::from(fields.root_dispersion),
+        u64::from(fields.identifier),
         fields.reference.0,
         fields.originate.0,
         fields.receive.0,
@@ -84,36 +76,38 @@ fn numbers_of(fields: Fields) -> [u64; FIELDS]
 
 // `packet::read`. Refusals: 7.
 pub fn pongulvesz_read_fields(packet: &[u8], fields: &mut [u64; FIELDS]) -> u32
-    ensures number { result ≡ read_number (read_answer packet.now) }
+    ensures number { result ≡ number_of (read_answer packet.now) }
     ensures fields { fields.new ≡ fields_after fields.old (read_answer packet.now) }
 {
     match packet::read(packet) {
-        FieldsAnswer::Refused(number) => number as u32,
-        FieldsAnswer::Fields(f) => {
-            *fields = numbers_of(f);
+        Ok(read) => {
+            *fields = numbers_of(read);
             0
         }
+        Err(refusal) => u32::from(refusal.number()),
     }
 }
 
-fn is_above(limit: u64, a: u64, b: u64, c: u64) -> bool
-    ensures { result ≡ is_above limit a b c }
+// Whether a number is over the 8 or 32 bits of its field. By `try_from` and `?` each test is a branch of its own, and a call takes an eighth more instructions.
+fn too_wide(n: &[u64; FIELDS]) -> bool
+    ensures { result ≡ too_wide n.now }
 {
-    (limit < a) | (limit < b) | (limit < c)
+    (0xFF < n[0])
+        | (0xFF < n[1])
+        | (0xFF < n[2])
+        | (0xFF < n[3])
+        | (0xFF < n[4])
+        | (0xFF < n[5])
+        | (0xFFFF_FFFF < n[6])
+        | (0xFFFF_FFFF < n[7])
+        | (0xFFFF_FFFF < n[8])
 }
 
-// Whether a number is over the 8 or 32 bits of its field.
-fn too_wide(n: [u64; FIELDS]) -> bool
-    ensures { result ≡ too_wide n }
-{
-    is_above(0xFF, n[0], n[1], n[2])
-        | is_above(0xFF, n[3], n[4], n[5])
-        | is_above(0xFFFF_FFFF, n[6], n[7], n[8])
-}
-
-fn fields_in(n: [u64; FIELDS]) -> Fields
-    requires { too_wide n ≡ false }
-    ensures { result ≡ fields_in n }
+// The fields that C writes.
+#[tactic(auto, unfolding(crate::specs::Packets::fields_in))]
+fn fields_in(n: &[u64; FIELDS]) -> Fields
+    requires { too_wide n.now ≡ false }
+    ensures { result ≡ fields_in n.now }
 {
     Fields {
         leap: n[0] as u8,
@@ -132,20 +126,26 @@ fn fields_in(n: [u64; FIELDS]) -> Fields
     }
 }
 
-// `packet::write`. Refusals, in order: 1, 27, also for a number that is too wide for its field.
-pub fn pongulvesz_write_fields(fields: &[u64; FIELDS], buffer: &mut [u8]) -> u32
-    ensures number { result ≡ write_number fields.now buffer.old }
+fn write_fields(fields: &[u64; FIELDS], buffer: &mut [u8]) -> Result<(), Refusal>
+    ensures answer { result ≡ write_answer fields.now buffer.old }
     ensures buffer { buffer.new ≡ buffer_after fields.now buffer.old }
 {
     if buffer.len() < packet::LENGTH {
-        return refusals::BUFFER_TOO_SHORT as u32;
+        return Err(Refusal::BufferTooShort);
     }
-    let numbers = *fields;
-    if too_wide(numbers) {
-        return refusals::FIELD_TOO_LARGE as u32;
+    if too_wide(fields) {
+        return Err(Refusal::FieldTooLarge);
     }
-    match packet::write(buffer, fields_in(numbers)) {
-        WriteAnswer::Refused(number) => number as u32,
-        WriteAnswer::Written => 0,
+    packet::write(buffer, fields_in(fields))
+}
+
+// `packet::write`. Refusals, in order: 1, 27, also for a number that is too wide for its field.
+pub fn pongulvesz_write_fields(fields: &[u64; FIELDS], buffer: &mut [u8]) -> u32
+    ensures number { result ≡ number_of (write_answer fields.now buffer.old) }
+    ensures buffer { buffer.new ≡ buffer_after fields.now buffer.old }
+{
+    match write_fields(fields, buffer) {
+        Ok(()) => 0,
+        Err(refusal) => u32::from(refusal.number()),
     }
 }

@@ -2,19 +2,17 @@
 #![tactic(auto)]
 
 ghost use Rattle.std.specs.Prelude.{◌≡◌};
-ghost use Rattle.timestamp.specs.Timestamp as timestamps;
-ghost use Rattle.timestamp.specs.Timestamp.{ordered, ◌since◌};
-ghost use Rattle.offset.specs.Offset.{measured};
 ghost use Rattle.packet.specs.Packet.{read_answer};
-ghost use Rattle.firmware_packets.specs.Packets.{difference_number, difference_after, measure_number, offset_after, half_after, delay_after, read_number, fields_after, write_number, buffer_after};
+ghost use Rattle.firmware_fields.specs.Fields.{number_of};
+ghost use Rattle.firmware_packets.specs.Packets.{difference_of, difference_number, difference_after, measurement, measure, measurement_after, fields_after, write_answer, buffer_after};
 
 use firmware_packets::FIELDS;
 
 // `timestamp::Timestamp::minus`. Refusals: 43.
 #[unsafe(no_mangle)]
 pub extern "C" fn pongulvesz_difference(x: u64, y: u64, difference: &mut i64) -> u32
-    ensures number { result ≡ difference_number (ordered (timestamps.timestamp x since timestamps.timestamp y)) }
-    ensures difference { difference.new ≡ difference_after difference.old (ordered (timestamps.timestamp x since timestamps.timestamp y)) }
+    ensures number { result ≡ difference_number (difference_of x y) }
+    ensures difference { difference.new ≡ difference_after difference.old (difference_of x y) }
 {
     firmware_packets::pongulvesz_difference(x, y, difference)
 }
@@ -30,10 +28,8 @@ pub extern "C" fn pongulvesz_measure(
     half: &mut u32,
     delay: &mut i64,
 ) -> u32
-    ensures number { result ≡ measure_number (measured (timestamps.timestamp t1) (timestamps.timestamp t2) (timestamps.timestamp t3) (timestamps.timestamp t4)) }
-    ensures offset { offset.new ≡ offset_after offset.old (measured (timestamps.timestamp t1) (timestamps.timestamp t2) (timestamps.timestamp t3) (timestamps.timestamp t4)) }
-    ensures half { half.new ≡ half_after half.old (measured (timestamps.timestamp t1) (timestamps.timestamp t2) (timestamps.timestamp t3) (timestamps.timestamp t4)) }
-    ensures delay { delay.new ≡ delay_after delay.old (measured (timestamps.timestamp t1) (timestamps.timestamp t2) (timestamps.timestamp t3) (timestamps.timestamp t4)) }
+    ensures number { result ≡ number_of (measure t1 t2 t3 t4) }
+    ensures measurement { measurement offset.new half.new delay.new ≡ measurement_after (measurement offset.old half.old delay.old) (measure t1 t2 t3 t4) }
 {
     firmware_packets::pongulvesz_measure(t1, t2, t3, t4, offset, half, delay)
 }
@@ -41,7 +37,7 @@ pub extern "C" fn pongulvesz_measure(
 // `packet::read`. Refusals: 7.
 #[unsafe(no_mangle)]
 pub extern "C" fn pongulvesz_read_fields(packet: &[u8], fields: &mut [u64; FIELDS]) -> u32
-    ensures number { result ≡ read_number (read_answer packet.now) }
+    ensures number { result ≡ number_of (read_answer packet.now) }
     ensures fields { fields.new ≡ fields_after fields.old (read_answer packet.now) }
 {
     firmware_packets::pongulvesz_read_fields(packet, fields)
@@ -50,7 +46,7 @@ pub extern "C" fn pongulvesz_read_fields(packet: &[u8], fields: &mut [u64; FIELD
 // `packet::write`. Refusals, in order: 1, 27, also for a number that is too wide for its field.
 #[unsafe(no_mangle)]
 pub extern "C" fn pongulvesz_write_fields(fields: &[u64; FIELDS], buffer: &mut [u8]) -> u32
-    ensures number { result ≡ write_number fields.now buffer.old }
+    ensures number { result ≡ number_of (write_answer fields.now buffer.old) }
     ensures buffer { buffer.new ≡ buffer_after fields.now buffer.old }
 {
     firmware_packets::pongulvesz_write_fields(fields, buffer)

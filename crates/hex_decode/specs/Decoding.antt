@@ -1,5 +1,5 @@
 -- What the octets of a whole line are: two digits an octet. proofs/Decoding.antt proves `Decoding`.
-use Rattle.std.specs.Prelude.{ℕ, ◌+◌, ◌*◌, ◌≡◌, Bool, true, false, not, cond, ◌&&◌, List, [], ◌∷◌, ltb, leb, eqb, length, take, drop, get_or}
+use Rattle.std.specs.Prelude.{ℕ, ◌+◌, ◌*◌, ◌≡◌, Bool, true, false, cond, Option, Some, None, List, [], ◌∷◌, leb, eqb, length, take, drop}
 use Rattle.hex_decode.specs.declared.Line.{Line}
 use Rattle.hex_decode.specs.declared.PushedLine.{PushedLine}
 use Rattle.hex_decode.specs.Lines.{digit_of, start, pushed, pushed_buffer, is_complete, has_begun}
@@ -12,11 +12,17 @@ abbrev pub before : ℕ → Frame → Frame
 before x (octets xs) = octets (x ∷ xs)
 before x malformed = malformed
 
+-- two digits in front of a frame's octets; malformed where one is no digit
+abbrev pub pair : Option ℕ → Option ℕ → Frame → Frame
+pair (Some high) (Some low) frame = before (high * 16 + low) frame
+pair (Some high) None frame = malformed
+pair None low frame = malformed
+
 -- the octets that a line's characters are; malformed where a character is no digit, or a digit is left over
 abbrev pub decode : List ℕ → Frame
 decode [] = octets []
 decode (a ∷ []) = malformed
-decode (a ∷ b ∷ rest) = cond (ltb (digit_of a) 16 && ltb (digit_of b) 16) (before (digit_of a * 16 + digit_of b) (decode rest)) malformed
+decode (a ∷ b ∷ rest) = pair (digit_of a) (digit_of b) (decode rest)
 
 -- more than n octets are malformed
 abbrev pub at_most : ℕ → Frame → Frame
@@ -39,10 +45,6 @@ after h (c ∷ cs) = after (next h c) cs
 abbrev pub to_line_feed : List ℕ → List ℕ
 to_line_feed [] = []
 to_line_feed (c ∷ cs) = cond (eqb c 10) [] (c ∷ to_line_feed cs)
-
--- at index i stands a character that is no line feed
-abbrev pub in_line : List ℕ → ℕ → Bool
-in_line characters i = ltb i (length characters) && not (eqb (get_or characters i 0) 10)
 
 -- the line and its buffer after the characters from index at on, up to a line feed or to the last one
 abbrev pub held_after : Line → List ℕ → List ℕ → ℕ → Held

@@ -1,17 +1,27 @@
 // Lines of hexadecimal: characters to octets, as they come in.
 #![tactic(auto)]
 
-ghost use Rattle.std.specs.Prelude.{◌≡◌, ◌<◌};
-ghost use Rattle.hex_decode.specs.Lines.{digit_of, is_digit, start, refused, paired, paired_buffer, pushed, pushed_buffer, is_complete, has_begun};
-ghost use Rattle.hex_decode.specs.Decoding.{in_line, pushed_line, pushed_line_buffer};
+ghost use Rattle.std.specs.Prelude.{◌≡◌, ◌<◌, IfSome};
+ghost use Rattle.hex_decode.specs.Lines.{digit_of, start, refused, pushed, pushed_buffer, is_complete, has_begun};
+ghost use Rattle.hex_decode.specs.Decoding.{pushed_line, pushed_line_buffer};
 
-// What is known of a line so far: how many octets of it stand in a lent buffer, the digit that waits for its second one, and whether a character
-// was no digit or there was no room.
+const LINE_FEED: u8 = b'\n';
+
+// What follows the whole octets of a line.
+#[derive(Clone, Copy)]
+pub enum Rest {
+    Nothing,
+    // A digit that waits for its second one.
+    Digit(u8),
+    // A character that is no digit, or an octet for which there was no room.
+    Malformed,
+}
+
+// What is known of a line so far: how many octets of it stand in a buffer, and what follows them. The caller lends the buffer, since a library has no heap.
 #[derive(Clone, Copy)]
 pub struct Line {
     pub count: usize,
-    pub high: u8,
-    pub malformed: bool,
+    pub rest: Rest,
 }
 
 // A line after some characters, and the index of the character that comes next.
@@ -21,43 +31,29 @@ pub struct PushedLine {
     pub at: usize,
 }
 
-fn is_digit(c: u8) -> bool
-    ensures { result ≡ is_digit c }
+// The value of a digit of either case. The letters of both cases end in the bits of 1 to 6. The test of the value comes last: where the first test decided,
+// it became branches that tell letters from the other digits, and the processor could not foresee them. So it was with `to_digit` too.
+#[tactic(auto, unfolding(crate::specs::Lines::digit_of))]
+pub fn digit(c: u8) -> Option<u8>
+    ensures value { result ≡ digit_of c }
+    ensures below { IfSome result (λ value. value < 16) }
 {
-    ((b'0' <= c) & (c <= b'9')) | ((b'A' <= c) & (c <= b'F')) | ((b'a' <= c) & (c <= b'f'))
-}
-
-// The value of a digit of either case, and 16 for any other character. The letters of both cases end in the bits of 1 to 6, and no branch tells them from
-// the other digits: the processor could not foresee it.
-pub fn digit(c: u8) -> u8
-    ensures { result ≡ digit_of c }
-{
-    if is_digit(c) {
+    let value = if c.is_ascii_hexdigit() {
         c % 16 + c / 64 * 9
     } else {
-        Line::NONE
-    }
-}
-
-// At index i stands a character that is no line feed.
-fn in_line(characters: &[u8], i: usize) -> bool
-    ensures { result ≡ in_line characters.now i }
-{
-    i < characters.len() && characters[i] != b'\n'
+        16
+    };
+    (value < 16).then_some(value)
 }
 
 impl Line {
-    // No digit: none waits for its second one.
-    pub const NONE: u8 = 16;
-
     // A line of which no character is known.
     pub fn start() -> Line
         ensures { result ≡ start }
     {
         Line {
             count: 0,
-            high: Line::NONE,
-            malformed: false,
+            rest: Rest::Nothing,
         }
     }
 
@@ -66,46 +62,33 @@ impl Line {
     {
         Line {
             count: self.count,
-            high: self.high,
-            malformed: true,
+            rest: Rest::Malformed,
         }
     }
 
-    // The second digit of a pair.
-    fn paired(self, buffer: &mut [u8], low: u8) -> Line
-        requires { (self.high < 16) × (low < 16) }
-        ensures answer { result ≡ paired self buffer.old }
-        ensures buffer { buffer.new ≡ paired_buffer self buffer.old low }
-    {
-        let at = self.count;
-        if buffer.len() <= at {
-            return self.refused();
-        }
-        buffer[at] = self.high * 16 + low;
-        Line {
-            count: at + 1,
-            high: Line::NONE,
-            malformed: false,
-        }
-    }
-
-    // One more character, which is not the line's end.
+    // One more character, which is not the line's end. A digit that waits is below 16, so its remainder is itself; it lets the sum fit whatever the line is.
+    #[tactic(auto, unfolding(crate::specs::Lines::pushed, crate::specs::Lines::pushed_buffer))]
     pub fn push(self, buffer: &mut [u8], c: u8) -> Line
         ensures answer { result ≡ pushed self buffer.old c }
         ensures buffer { buffer.new ≡ pushed_buffer self buffer.old c }
     {
-        let value = digit(c);
-        if self.malformed | (Line::NONE <= value) {
+        let Some(value) = digit(c) else {
             return self.refused();
-        }
-        if Line::NONE <= self.high {
-            return Line {
+        };
+        match self.rest {
+            Rest::Nothing => Line {
                 count: self.count,
-                high: value,
-                malformed: false,
-            };
+                rest: Rest::Digit(value),
+            },
+            Rest::Digit(high) if self.count < buffer.len() => {
+                buffer[self.count] = high % 16 * 16 + value;
+                Line {
+                    count: self.count + 1,
+                    rest: Rest::Nothing,
+                }
+            }
+            Rest::Digit(_) | Rest::Malformed => self.refused(),
         }
-        self.paired(buffer, value)
     }
 
     // Takes the characters from index at on, up to a line feed or to the last one.
@@ -114,25 +97,33 @@ impl Line {
         ensures buffer { buffer.new ≡ pushed_line_buffer self buffer.old characters.now at }
     {
         let mut line = self;
-        let mut i = at;
-        while in_line(characters, i) {
-            line = line.push(buffer, characters[i]);
-            i += 1;
+        let Some(left) = characters.get(at..) else {
+            return PushedLine { line, at };
+        };
+        for (i, c) in left.iter().enumerate() {
+            if *c == LINE_FEED {
+                return PushedLine { line, at: at + i };
+            }
+            line = line.push(buffer, *c);
         }
-        PushedLine { line, at: i }
+        PushedLine {
+            line,
+            at: characters.len(),
+        }
     }
 
     // A character of the line has come.
+    #[tactic(auto, unfolding(crate::specs::Lines::has_begun))]
     pub fn has_begun(self) -> bool
         ensures { result ≡ has_begun self }
     {
-        (0 < self.count) | (self.high != Line::NONE) | self.malformed
+        0 < self.count || !self.is_complete()
     }
 
-    // The line is whole: no digit waits, and nothing was malformed.
+    // The line is whole octets.
     pub fn is_complete(self) -> bool
         ensures { result ≡ is_complete self }
     {
-        !self.malformed & (self.high == Line::NONE)
+        matches!(self.rest, Rest::Nothing)
     }
 }

@@ -1,5 +1,5 @@
 -- The characters that octets are written as: two digits an octet, in upper case.
-use Rattle.std.specs.Prelude.{ℕ, ◌+◌, ◌/◌, ◌%◌, cond, List, [], ◌∷◌, ◌++◌, ltb, leb, length}
+use Rattle.std.specs.Prelude.{ℕ, ◌+◌, ◌/◌, ◌%◌, cond, Option, Some, None, List, [], ◌∷◌, ◌++◌, ltb, leb, length}
 use Rattle.std.proofs.lemmas.List.Edits.{sets}
 
 -- the character of a digit's value
@@ -18,5 +18,5 @@ text octets = digits octets ++ (10 ∷ [])
 unfoldable pub put_line : List ℕ → ℕ → List ℕ → List ℕ
 put_line output at octets = cond (leb (at + length (text octets)) (length output)) (sets output at (text octets)) output
 
-unfoldable pub put_line_at : List ℕ → ℕ → List ℕ → ℕ
-put_line_at output at octets = cond (leb (at + length (text octets)) (length output)) (at + length (text octets)) at
+unfoldable pub put_line_at : List ℕ → ℕ → List ℕ → Option ℕ
+put_line_at output at octets = cond (leb (at + length (text octets)) (length output)) (Some (at + length (text octets))) None

@@ -6,6 +6,7 @@ ghost use Rattle.std.proofs.lemmas.List.Edits.{sets};
 ghost use Rattle.hex_encode.specs.Text.{character_of, digits, put_line, put_line_at};
 
 // The character of a digit's value, in upper case.
+#[tactic(auto, unfolding(crate::specs::Text::character_of))]
 fn character(value: u8) -> u8
     ensures { result ≡ character_of value }
 {
@@ -21,34 +22,33 @@ fn put_octet(output: &mut [u8], at: usize, octet: u8)
     output[at + 1] = character(octet);
 }
 
+#[tactic(auto, using(crate::proofs::Written::length_digits, crate::proofs::Written::put_more))]
 fn put_octets(output: &mut [u8], at: usize, octets: &[u8]) -> usize
     requires { at + length (digits octets.now) ≤ length output.old }
     ensures answer { result ≡ at + length (digits octets.now) }
     ensures buffer { output.new ≡ sets output.old at (digits octets.now) }
 {
+    // The library says nothing of what is written through `chunks_exact_mut`, so `end` is counted here.
     let mut end = at;
-    let mut i = 0;
-    while i < octets.len() {
-        put_octet(output, end, octets[i]);
+    for octet in octets {
+        put_octet(output, end, *octet);
         end += 2;
-        i += 1;
     }
     end
 }
 
-// Puts a line of octets into the output from index at on, and answers the index after it; where there is no room, puts nothing and answers at.
-pub fn put_line(output: &mut [u8], at: usize, octets: &[u8]) -> usize
+// Puts a line of octets into the output from index at on, and answers the index after it; where there is no room, puts nothing.
+#[tactic(auto, using(crate::proofs::Written::length_digits, crate::proofs::Written::length_text, crate::proofs::Written::put_last), unfolding(crate::specs::Text::put_line, crate::specs::Text::put_line_at))]
+pub fn put_line(output: &mut [u8], at: usize, octets: &[u8]) -> Option<usize>
     ensures answer { result ≡ put_line_at output.old at octets.now }
     ensures buffer { output.new ≡ put_line output.old at octets.now }
 {
-    if output.len() <= at {
-        return at;
-    }
-    let room = output.len() - at;
-    if (room - 1) / 2 < octets.len() {
-        return at;
+    let room = output.len().saturating_sub(at);
+    // Two characters an octet leave no room for the line feed. No product is formed, so nothing overflows.
+    if room.div_ceil(2) <= octets.len() {
+        return None;
     }
     let end = put_octets(output, at, octets);
     output[end] = b'\n';
-    end + 1
+    Some(end + 1)
 }

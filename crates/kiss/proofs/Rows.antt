@@ -1,19 +1,21 @@
--- The row of a code in a list of codes, one code after another.
-use Prim.Native.Nat.{ℕ, suc, ◌<◌}
-use mathlib.Core.Path.{◌≡◌}
-use mathlib.Core.Logic.{◌≢◌}
-use mathlib.Core.List.{List}
-use borrow.Author.Tests.{eq-eqb, ne_eqb}
-use lib.ListN.{length, drop, get_or}
-use lib.Seq.{drop-cons, drop-length}
+-- The row of a code in a list of codes, by its index there.
+use Rattle.std.proofs.Common.{ℕ, suc, ◌+◌, ◌≡◌, Bool, true, false, Option, Some, None, List, [], ◌∷◌, refl, add-one, position}
+use Rattle.std.specs.List.{position_from}
+use Rattle.std.proofs.lemmas.Iterator.Adapters.{position_from-zero}
+use lib.Dec.{eqb}
 use Rattle.kiss.specs.Kiss.{row_in}
 
-module _ (codes : List ℕ) (c i : ℕ) where
-  pub found : (k : ℕ) → i < length codes → c ≡ get_or codes i 0 → row_in k (drop i codes) c ≡ k
-  found k h e = rw (drop-cons codes i 0 h, eq-eqb c (get_or codes i 0) e)
+abbrev pub row_at : Option ℕ → ℕ
+row_at None = 0
+row_at (Some i) = i + 1
 
-  pub passed : (k : ℕ) → i < length codes → c ≢ get_or codes i 0 → row_in k (drop i codes) c ≡ row_in (suc k) (drop (suc i) codes) c
-  passed k h e = rw (drop-cons codes i 0 h, ne_eqb c (get_or codes i 0) e)
+row_from : (k : ℕ) (codes : List ℕ) (c : ℕ) → row_in (suc k) codes c ≡ row_at (position_from (λ x. eqb c x) k codes)
+row_from k [] c = refl
+row_from k (x ∷ codes) c = go (eqb c x) refl (row_from (suc k) codes c)
+  where
+    go : (t : Bool) → eqb c x ≡ t → row_in (suc (suc k)) codes c ≡ row_at (position_from (λ x. eqb c x) (suc k) codes) → row_in (suc k) (x ∷ codes) c ≡ row_at (position_from (λ x. eqb c x) k (x ∷ codes))
+    go true e r = rw (e, add-one)
+    go false e r = rw (e, add-one) r
 
-  pub none : (k : ℕ) → i ≡ length codes → row_in k (drop i codes) c ≡ 0
-  none k e = rw (e, drop-length codes)
+pub row_position : (codes : List ℕ) (c : ℕ) → row_in 1 codes c ≡ row_at (position (λ x. eqb c x) codes)
+row_position codes c = rw (position_from-zero (λ x. eqb c x) codes) (row_from 0 codes c)

@@ -1,8 +1,8 @@
 // Kiss codes: the reference identifier of a reply of stratum 0 (RFC 4330, section 8).
 #![tactic(auto)]
 
-ghost use Rattle.std.specs.Prelude.{◌≡◌};
-ghost use Rattle.kiss.specs.Kiss.{code_of, names, codes, row_in, row_of};
+ghost use Rattle.std.specs.Prelude.{◌≡◌, ◌==◌, ◌<◌, IfSome, position};
+ghost use Rattle.kiss.specs.Kiss.{code_of, names, codes, row_of};
 
 // The four octets of a name as a reference identifier.
 pub fn code(name: &[u8; 4]) -> u32
@@ -33,23 +33,20 @@ fn codes() -> [u32; 14]
     ]
 }
 
-// The row of a code in a list of codes, from 1 on; 0 for any other code.
-fn row_in(codes: [u32; 14], c: u32) -> u8
-    ensures { result ≡ row_in 1 codes c }
+fn index_in(codes: [u32; 14], c: u32) -> Option<usize>
+    ensures index { result ≡ position (λ code. c == code) codes }
+    ensures below { IfSome result (λ i. i < 14) }
 {
-    let mut i: usize = 0;
-    while i < 14 {
-        if c == codes[i] {
-            return i as u8 + 1;
-        }
-        i += 1;
-    }
-    0
+    codes.iter().position(|code| c == *code)
 }
 
-// The row of a code in the rules' list, from 1 on; 0 for any other code.
+// The row of a code in the rules' list, from 1 on; 0 for any other code, as the rules number it.
+#[tactic(auto, using(crate::proofs::Rows::row_position), unfolding(crate::specs::Kiss::row_of))]
 pub fn row(c: u32) -> u8
     ensures { result ≡ row_of c }
 {
-    row_in(codes(), c)
+    match index_in(codes(), c) {
+        Some(i) => i as u8 + 1,
+        None => 0,
+    }
 }

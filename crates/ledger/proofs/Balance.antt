@@ -10,29 +10,30 @@ use lib.Dec.{T, leb, leb→le}
 use lib.IntN.{ℤ, pos, negsuc, ◌+ℤ◌, ◌-ℤ◌, nat_abs}
 use borrow.Author.Tests.{leb-false, lt-leb}
 use mir.Facts.{and_yes}
-use Rattle.arithmetic.proofs.Integers.{integers, sum, minus}
+use Rattle.std.proofs.lemmas.Int.{ints}
 use Rattle.ordered_tests.proofs.Reflection.{is_false}
-use Rattle.refusals.specs.Numbers.{record_not_legal, entry_too_large, debt_too_large, limit_out_of_range}
-use Rattle.ordered_tests.specs.Tests.{answer_of, between}
+use Rattle.std.specs.Prelude.{Result, Err}
+use Rattle.refusals.specs.declared.Refusal.{Refusal}
+use Rattle.refusals.specs.declared.Refusal.TheVariants.{RecordNotLegal, EntryTooLarge, DebtTooLarge, LimitOutOfRange}
+use Rattle.ordered_tests.specs.Tests.{answer_of, tested_of, between}
 use Rattle.ordered_tests.proofs.Tests.{by_rows}
 use Rattle.ledger.specs.declared.Ledger.{Ledger}
-use Rattle.ledger.specs.Ledger.{opened, half_units, is_debt_too_large, illegal, entry_tests, refused_entry, payment, tick_tests, refused_tick, number_in_entry, number_in_tick}
-use Rattle.ledger.specs.Balance.{LedgerCall, entry, tick, next, added_by, added, paid_in, paid, after, all_added, all_paid, AllLegal, ticks, ceiling, Balance}
-use Rattle.ledger.specs.Balance as calls
+use Rattle.ledger.specs.Ledger.{opened, half_units, is_debt_too_large, illegal, entry_tests, refused_call, payment, tick_tests}
+use Rattle.ledger.specs.Balance.{LedgerCall, entry, tick, told, next, added_by, added, paid_in, paid, after, all_added, all_paid, AllLegal, ticks, ceiling, Balance}
 use Rattle.ledger.proofs.Payments.{leaves, pays}
 
 -- ---- one call
 
--- of a call that pays and adds so much, leaves this ledger and gives this number: the balance holds, the ledger left is legal and the number is not 29
-record Kept (l : Ledger) (pays adds : ℤ) (left : Ledger) (number : ℕ) : Type 0 where
+-- of a call that pays and adds so much, leaves this ledger and tells this: the balance holds, the ledger left is legal and 29 does not refuse
+record Kept (l : Ledger) (pays adds : ℤ) (left : Ledger) (told : Result (Unit {0}) Refusal) : Type 0 where
   balance : pays +ℤ left.debt ≡ l.debt +ℤ adds
   legal : illegal left ≡ false
-  other : number ≡ record_not_legal → ⊥
+  other : told ≡ Err RecordNotLegal → ⊥
 
 module _ (l : Ledger) (ok : illegal l ≡ false) where
   -- a refusal changes nothing
-  refusal : (n : ℕ) → (n ≡ record_not_legal → ⊥) → Kept l (pos 0) (pos 0) l n
-  refusal n ne = record { balance = omega (arith, integers, sum (pos 0) l.debt, sum l.debt (pos 0)); legal = ok; other = ne }
+  refusal : (r : Refusal) → (r ≡ RecordNotLegal → ⊥) → Kept l (pos 0) (pos 0) l (Err r)
+  refusal r ne = record { balance = omega (arith, ints); legal = ok; other = λ e. ne cc }
 
   -- what a payment leaves is legal
   left_legal : (limit : ℕ) → is_debt_too_large (l.debt -ℤ payment l.debt limit) ≡ false
@@ -41,28 +42,28 @@ module _ (l : Ledger) (ok : illegal l ≡ false) where
       lt-leb (2 ^ 50) (nat_abs (l.debt -ℤ payment l.debt limit)) (omega (arith, leb-false (2 ^ 50) (nat_abs l.debt) ok, leaves l.debt limit))
 
   -- row by row of the call's table
-  keeps : (c : LedgerCall) → Kept l (paid l c) (added l c) (next l c) (calls.number_of l c)
+  keeps : (c : LedgerCall) → Kept l (paid l c) (added l c) (next l c) (told l c)
   unfolding entry_tests tick_tests
   keeps (entry offset half) =
       let d = l.debt +ℤ half_units offset half in
-      by_rows (λ g. let e = answer_of (refused_entry l) g in Kept l (pos 0) (added_by e.answer offset half) e.ledger (number_in_entry e.answer)) (entry_tests l offset half) (
+      by_rows (λ g. let e = answer_of (refused_call l) g in Kept l (pos 0) (added_by e.answer offset half) e.ledger e.answer) (entry_tests l offset half) (
         λ t. absurd (subst T ok t),
         λ _. (
-          λ _. refusal entry_too_large (λ z. omega arith),
+          λ _. refusal EntryTooLarge (λ z. cc),
           λ _. (
-            λ _. refusal debt_too_large (λ z. omega arith),
-            λ t. record { balance = omega (arith, integers, sum (pos 0) d); legal = (is_false (is_debt_too_large d)).from t; other = λ z. omega arith },
+            λ _. refusal DebtTooLarge (λ z. cc),
+            λ t. record { balance = omega (arith, ints); legal = (is_false (is_debt_too_large d)).from t; other = λ z. cc },
           ),
         ),
       )
   keeps (tick limit) =
       let d = l.debt in
       let p = payment d limit in
-      by_rows (λ g. let e = answer_of (refused_tick l) g in Kept l (paid_in e.answer) (pos 0) e.ledger (number_in_tick e.answer)) (tick_tests l limit) (
+      by_rows (λ g. let e = answer_of (refused_call l) g in Kept l (paid_in e.answer) (pos 0) e.ledger (tested_of e.answer)) (tick_tests l limit) (
         λ t. absurd (subst T ok t),
         λ _. (
-          λ _. refusal limit_out_of_range (λ z. omega arith),
-          λ _. record { balance = omega (arith, integers, minus d p, sum p (d -ℤ p), sum d (pos 0)); legal = left_legal limit; other = λ z. omega arith },
+          λ _. refusal LimitOutOfRange (λ z. cc),
+          λ _. record { balance = omega (arith, ints); legal = left_legal limit; other = λ z. cc },
         ),
       )
 
@@ -70,12 +71,11 @@ module _ (l : Ledger) (ok : illegal l ≡ false) where
 
 -- the balance of a first call, from debt to left, and of the rest of the calls, from left to end
 chain : (debt p a left ps xs end : ℤ) → p +ℤ left ≡ debt +ℤ a → ps +ℤ end ≡ left +ℤ xs → p +ℤ ps +ℤ end ≡ debt +ℤ (a +ℤ xs)
-chain debt p a left ps xs end first rest =
-    omega (arith, integers, sum p left, sum debt a, sum ps end, sum left xs, sum p ps, sum (p +ℤ ps) end, sum a xs, sum debt (a +ℤ xs))
+chain debt p a left ps xs end first rest = omega (arith, ints)
 
 -- from any legal ledger what was paid and is owed at the end is what was owed before and was added
 balanced_from : (l : Ledger) → illegal l ≡ false → (cs : List LedgerCall) → all_paid l cs +ℤ (after l cs).debt ≡ l.debt +ℤ all_added l cs
-balanced_from l ok [] = omega (arith, integers, sum (pos 0) l.debt, sum l.debt (pos 0))
+balanced_from l ok [] = omega (arith, ints)
 balanced_from l ok (c ∷ cs) =
     let k = keeps l ok c in
     let m = next l c in
@@ -102,7 +102,7 @@ module _ (limit : ℕ) (range : between 1 (2 ^ 32) limit ≡ true) where
   -- a tick makes the size smaller by the limit
   tick_size : (l : Ledger) → illegal l ≡ false → nat_abs (next l (tick limit)).debt ≡ nat_abs l.debt - limit
   unfolding tick_tests
-  tick_size l ok = by_rows (λ g. nat_abs (answer_of (refused_tick l) g).ledger.debt ≡ nat_abs l.debt - limit) (tick_tests l limit)
+  tick_size l ok = by_rows (λ g. nat_abs (answer_of (refused_call l) g).ledger.debt ≡ nat_abs l.debt - limit) (tick_tests l limit)
       (λ t. absurd (subst T ok t), λ _. (λ t. absurd (subst (λ b. T (not b)) range t), λ _. leaves l.debt limit))
 
   -- and n ticks by n limits
@@ -122,7 +122,7 @@ module _ (limit : ℕ) (range : between 1 (2 ^ 32) limit ≡ true) where
 pub balance : Balance
 unfolding is_debt_too_large
 balance = record {
-  balanced = λ cs. omega (arith, integers, balanced_from opened refl cs, sum (pos 0) (all_added opened cs));
+  balanced = λ cs. omega (arith, ints, balanced_from opened refl cs);
   stays_legal = legal_from opened refl;
   no_more = λ debt limit. omega (arith, pays debt limit, leaves debt limit);
   paid_off = λ l limit n ok range. pays_off limit range l n ok;

@@ -1,44 +1,37 @@
 -- One payment: the smaller of the limit and the debt's size, with the debt's sign.
-use Prim.Native.Nat.{ℕ, zero, suc, min, ◌-◌}
+use Prim.Native.Nat.{ℕ, min, ◌-◌, ◌^◌, ◌≤◌}
 use native.Mathlib.Omega.{arith}
-use mathlib.Core.Path.{◌≡◌, refl, ap, ◌∙◌}
-use mathlib.Core.Bool.{true, false, true≢false}
-use borrow.Author.Tests.{ltb-true}
+use mathlib.Core.Path.{◌≡◌, refl, ◌∙◌}
 use lib.IntN.{ℤ, pos, negsuc, neg_ℤ, ◌-ℤ◌, nat_abs}
-use lib.Signed.{lt_z}
-use Rattle.arithmetic.proofs.Integers.{integers, minus, neg}
+use Rattle.std.specs.Int.{int_max, int_min}
+use Rattle.std.proofs.lemmas.Int.{ints, clamps, to_z-of_z}
+use mir.Syntax.{w64}
+use mir.Val.{SFits, of_z, to_z}
 use Rattle.ledger.specs.Ledger.{payment}
-
--- the size of -n is n
-size_neg : (n : ℕ) → nat_abs (neg_ℤ (pos n)) ≡ n
-size_neg zero = refl
-size_neg (suc n) = refl
 
 -- the size of what is left
 pub leaves : (debt : ℤ) (limit : ℕ) → nat_abs (debt -ℤ payment debt limit) ≡ nat_abs debt - limit
 unfolding payment
-leaves (pos n) limit =
-    let left : pos n -ℤ payment (pos n) limit ≡ pos (n - limit) = omega (arith, integers, minus (pos n) (payment (pos n) limit)) in
-    ap nat_abs left
-leaves (negsuc n) limit =
-    let p = payment (negsuc n) limit in
-    let r = suc n - limit in
-    let left : negsuc n -ℤ p ≡ neg_ℤ (pos r) = omega (arith, integers, minus (negsuc n) p, neg (pos (min (suc n) limit)), neg (pos r)) in
-    ap nat_abs left ∙ size_neg r
+leaves (pos n) limit = omega (arith, ints)
+leaves (negsuc n) limit = omega (arith, ints)
 
 -- the size of what is paid
 pub pays : (debt : ℤ) (limit : ℕ) → nat_abs (payment debt limit) ≡ min (nat_abs debt) limit
 unfolding payment
 pays (pos n) limit = refl
-pays (negsuc n) limit = size_neg (min (suc n) limit)
+pays (negsuc n) limit = omega (arith, ints)
 
--- by the sign of the debt
-pub back : (debt : ℤ) (limit : ℕ) → lt_z debt (pos 0) ≡ true → pos 0 -ℤ pos (min (nat_abs debt) limit) ≡ payment debt limit
+-- the debt clamped to the limit either way
+clamped_is : (debt : ℤ) (limit : ℕ) → int_max (neg_ℤ (pos limit)) (int_min debt (pos limit)) ≡ payment debt limit
 unfolding payment
-back (pos n) limit e = let no = ltb-true n 0 e in absurd (omega arith)
-back (negsuc n) limit e = let m = pos (min (suc n) limit) in omega (arith, integers, minus (pos 0) m, neg m)
+clamped_is (pos n) limit = grind (arith, ints, clamps)
+clamped_is (negsuc n) limit = grind (arith, ints, clamps)
 
-pub on : (debt : ℤ) (limit : ℕ) → lt_z debt (pos 0) ≡ false → pos (min (nat_abs debt) limit) ≡ payment debt limit
-unfolding payment
-on (pos n) limit e = refl
-on (negsuc n) limit e = absurd (true≢false e)
+-- as the code computes it
+pub clamped : (debt paid : ℤ) (limit : ℕ) → SFits w64 debt → SFits w64 paid → limit ≤ 2 ^ 32
+    → paid ≡ int_max (to_z w64 (of_z w64 (pos 0 -ℤ to_z w64 limit))) (int_min (to_z w64 (of_z w64 debt)) (to_z w64 limit))
+    → to_z w64 (of_z w64 paid) ≡ payment debt limit
+clamped debt paid limit f g h e =
+    let low : to_z w64 (of_z w64 (pos 0 -ℤ to_z w64 limit)) ≡ neg_ℤ (pos limit) = omega (arith, ints) in
+    let high : to_z w64 limit ≡ pos limit = omega (arith, ints) in
+    to_z-of_z w64 paid g ∙ e ∙ rw (low, to_z-of_z w64 debt f, high) (clamped_is debt limit)

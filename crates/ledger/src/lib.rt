@@ -6,9 +6,12 @@
 // still owed: the caller adds 3 units, and the reading is the same.
 #![tactic(auto)]
 
-ghost use Rattle.std.specs.Prelude.{◌≡◌, not, ◌^◌, ◌≤◌, ◌<◌, min, ◌+ℤ◌, ◌-ℤ◌, nat_abs};
+ghost use Rattle.std.specs.Prelude.{◌≡◌, not, ◌^◌, ◌≤◌, ◌<◌, ◌-ℤ◌, unsigned_abs};
+ghost use Rattle.std.specs.Bool.{OnFalse};
 ghost use Rattle.ordered_tests.specs.Tests.{between};
-ghost use Rattle.ledger.specs.Ledger.{opened, half_units, is_debt_too_large, is_entry_too_large, refused_entry, entered, payment, refused_tick, ticked};
+ghost use Rattle.ledger.specs.Ledger.{opened, half_units, is_debt_too_large, is_entry_too_large, refused_call, entered, payment, ticked};
+
+use refusals::Refusal;
 
 // The debt in half units, below 2^50 in size.
 #[derive(Clone, Copy)]
@@ -16,104 +19,58 @@ pub struct Ledger {
     pub debt: i64,
 }
 
-// What an entry answers, with the next record.
+// What a call answers, with the next record.
 #[derive(Clone, Copy)]
-pub enum EntryAnswer {
-    Refused(u8),
-    Taken,
-}
-
-#[derive(Clone, Copy)]
-pub struct Entered {
-    pub answer: EntryAnswer,
+pub struct Called<T> {
+    pub answer: Result<T, Refusal>,
     pub ledger: Ledger,
 }
 
-// What a tick answers, with the next record. What it paid has the debt's sign.
-#[derive(Clone, Copy)]
-pub enum TickAnswer {
-    Refused(u8),
-    Paid(i64),
-}
-
-#[derive(Clone, Copy)]
-pub struct Ticked {
-    pub answer: TickAnswer,
-    pub ledger: Ledger,
-}
-
-// The size of a signed number, from its bits: those of a negative one are 2^64 less its size.
-fn magnitude(x: i64) -> u64
-    ensures { result ≡ nat_abs x }
-{
-    let bits = twos_complement::bits64(x);
-    if bits <= 0x7FFF_FFFF_FFFF_FFFF {
-        bits
-    } else {
-        0xFFFF_FFFF_FFFF_FFFF - bits + 1
-    }
-}
-
+#[tactic(auto, unfolding(crate::specs::Ledger::is_debt_too_large))]
 fn debt_too_large(debt: i64) -> bool
-    ensures { result ≡ is_debt_too_large debt }
+    ensures is { result ≡ is_debt_too_large debt }
+    ensures small { OnFalse result (unsigned_abs debt < 2 ^ 50) }
 {
-    0x4_0000_0000_0000 <= magnitude(debt)
-}
-
-fn sum(a: i64, b: i64) -> i64
-    requires { (nat_abs a < 2 ^ 62) × (nat_abs b < 2 ^ 62) }
-    ensures { result ≡ a +ℤ b }
-{
-    a + b
-}
-
-fn difference(a: i64, b: i64) -> i64
-    requires { (nat_abs a < 2 ^ 62) × (nat_abs b < 2 ^ 62) }
-    ensures { result ≡ a -ℤ b }
-{
-    a - b
+    1 << 50 <= debt.unsigned_abs()
 }
 
 // Twice the offset plus the half.
 fn half_units(offset: i64, half: u8) -> i64
-    requires { (nat_abs offset ≤ 2 ^ 40) × (half ≤ 1) }
-    ensures { result ≡ half_units offset half }
+    requires offset { unsigned_abs offset ≤ 2 ^ 40 }
+    requires half { half ≤ 1 }
+    ensures is { result ≡ half_units offset half }
+    ensures small { unsigned_abs result < 2 ^ 42 }
 {
-    sum(sum(offset, offset), half as i64)
+    offset + offset + half as i64
 }
 
 // Twice an offset may not fit 64 bits: one of more than 2^40 units is too large whatever its half.
+#[tactic(auto, using(crate::proofs::Sizes::double_size), unfolding(crate::specs::Ledger::is_entry_too_large))]
 fn entry_too_large(offset: i64, half: u8) -> bool
-    ensures { result ≡ is_entry_too_large offset half }
+    ensures is { result ≡ is_entry_too_large offset half }
+    ensures offset { OnFalse result (unsigned_abs offset ≤ 2 ^ 40) }
+    ensures half { OnFalse result (half ≤ 1) }
 {
-    if 1 < half {
-        return true;
-    }
-    if 0x100_0000_0000 < magnitude(offset) {
-        return true;
-    }
-    0x200_0000_0000 <= magnitude(half_units(offset, half))
+    1 < half
+        || 1 << 40 < offset.unsigned_abs()
+        || 1 << 41 <= half_units(offset, half).unsigned_abs()
 }
 
-fn least(a: u64, b: u64) -> u64
-    ensures { result ≡ min a b }
-{
-    if a < b { a } else { b }
-}
-
-// The smaller of the limit and the debt's size, with the debt's sign.
+// At most the limit of the debt, either way.
+#[tactic(auto, using(crate::proofs::Payments::clamped))]
 fn payment(debt: i64, limit: u64) -> i64
-    requires { nat_abs debt < 2 ^ 50 }
-    ensures { result ≡ payment debt limit }
+    requires { limit ≤ 2 ^ 32 }
+    ensures is { result ≡ payment debt limit }
+    ensures small { unsigned_abs result ≤ 2 ^ 32 }
 {
-    let paid = least(magnitude(debt), limit) as i64;
-    if debt < 0 { difference(0, paid) } else { paid }
+    let limit = limit as i64;
+    debt.clamp(-limit, limit)
 }
 
 fn limit_out_of_range(limit: u64) -> bool
     ensures { result ≡ not (between 1 (2 ^ 32) limit) }
 {
-    !((1 <= limit) & (limit <= 0x1_0000_0000))
+    !(1..=1 << 32).contains(&limit)
 }
 
 impl Ledger {
@@ -124,59 +81,52 @@ impl Ledger {
         Ledger { debt: 0 }
     }
 
-    fn refused_entry(self, number: u8) -> Entered
-        ensures { result ≡ refused_entry self number }
+    fn refused<T>(self, refusal: Refusal) -> Called<T>
+        ensures { result ≡ refused_call self refusal }
     {
-        Entered {
-            answer: EntryAnswer::Refused(number),
+        Called {
+            answer: Err(refusal),
             ledger: self,
         }
     }
 
     // Entry: an accepted offset and its half are owed.
-    pub fn entry(self, offset: i64, half: u8) -> Entered
+    #[tactic(auto, unfolding(crate::specs::Ledger::entry_tests))]
+    pub fn entry(self, offset: i64, half: u8) -> Called<()>
         ensures { result ≡ entered self offset half }
     {
         if debt_too_large(self.debt) {
-            return self.refused_entry(refusals::RECORD_NOT_LEGAL);
+            return self.refused(Refusal::RecordNotLegal);
         }
         if entry_too_large(offset, half) {
-            return self.refused_entry(refusals::ENTRY_TOO_LARGE);
+            return self.refused(Refusal::EntryTooLarge);
         }
-        let debt = sum(self.debt, half_units(offset, half));
+        let debt = self.debt + half_units(offset, half);
         if debt_too_large(debt) {
-            return self.refused_entry(refusals::DEBT_TOO_LARGE);
+            return self.refused(Refusal::DebtTooLarge);
         }
-        Entered {
-            answer: EntryAnswer::Taken,
+        Called {
+            answer: Ok(()),
             ledger: Ledger { debt },
         }
     }
 
-    fn refused_tick(self, number: u8) -> Ticked
-        ensures { result ≡ refused_tick self number }
-    {
-        Ticked {
-            answer: TickAnswer::Refused(number),
-            ledger: self,
-        }
-    }
-
-    // Tick: pays at most the limit of the debt.
-    pub fn tick(self, limit: u64) -> Ticked
+    // Tick: pays at most the limit of the debt. What is paid has the debt's sign.
+    #[tactic(auto, unfolding(crate::specs::Ledger::tick_tests))]
+    pub fn tick(self, limit: u64) -> Called<i64>
         ensures { result ≡ ticked self limit }
     {
         if debt_too_large(self.debt) {
-            return self.refused_tick(refusals::RECORD_NOT_LEGAL);
+            return self.refused(Refusal::RecordNotLegal);
         }
         if limit_out_of_range(limit) {
-            return self.refused_tick(refusals::LIMIT_OUT_OF_RANGE);
+            return self.refused(Refusal::LimitOutOfRange);
         }
         let paid = payment(self.debt, limit);
-        Ticked {
-            answer: TickAnswer::Paid(paid),
+        Called {
+            answer: Ok(paid),
             ledger: Ledger {
-                debt: difference(self.debt, paid),
+                debt: self.debt - paid,
             },
         }
     }

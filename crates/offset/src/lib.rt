@@ -1,16 +1,20 @@
 // The clock offset of four timestamps: T1 sent, T2 received, T3 answered, T4 arrived.
 #![tactic(auto)]
 
-ghost use Rattle.std.specs.Prelude.{◌≡◌, ◌+ℤ◌};
+ghost use Rattle.std.specs.Prelude.{◌≡◌, ◌+ℤ◌, MatchResult, false, true};
+ghost use Rattle.refusals.specs.declared.Refusal.TheVariants.{NoOrder};
+ghost use Rattle.timestamp.specs.Timestamp.{◌since◌, has_no_order};
 ghost use Rattle.offset.specs.Offset.{halves, measured};
 
-use timestamp::{Difference, Timestamp};
+use refusals::Refusal;
+use timestamp::Timestamp;
 
-// The refusal's number, or the offset with its half, and the round-trip delay, all in units of 2^-32 s.
-#[derive(Clone, Copy)]
-pub enum OffsetAnswer {
-    Refused(u8),
-    Measured { offset: i64, half: u8, delay: i64 },
+// The offset with its half, and the round-trip delay, all in units of 2^-32 s.
+#[derive(Clone, Copy, Debug, PartialEq, Eq)]
+pub struct Measurement {
+    pub offset: i64,
+    pub half: u8,
+    pub delay: i64,
 }
 
 // A sum halved: twice the offset plus the half is the sum.
@@ -32,41 +36,46 @@ pub fn halve(p: i64, q: i64) -> Halves
     }
 }
 
+// The difference x - y, where the two have an order.
+fn difference(x: Timestamp, y: Timestamp) -> Result<i64, Refusal>
+    ensures { MatchResult result (λ z. (has_no_order (x since y) ≡ false) × (z ≡ x since y)) (λ r. (has_no_order (x since y) ≡ true) × (r ≡ NoOrder)) }
+{
+    x.minus(y).ok_or(Refusal::NoOrder)
+}
+
 // The clock offset, its half and the round-trip delay. P and Q are the first and the second difference of the rules.
-pub fn measure(t1: Timestamp, t2: Timestamp, t3: Timestamp, t4: Timestamp) -> OffsetAnswer
+#[tactic(auto, unfolding(crate::specs::Offset::measured, crate::specs::Offset::offset_tests, crate::specs::Offset::halves))]
+pub fn measure(
+    t1: Timestamp,
+    t2: Timestamp,
+    t3: Timestamp,
+    t4: Timestamp,
+) -> Result<Measurement, Refusal>
     ensures { result ≡ measured t1 t2 t3 t4 }
 {
-    let Difference::Units(trip) = t4.minus(t1) else {
-        return OffsetAnswer::Refused(refusals::NO_ORDER);
-    };
+    let trip = difference(t4, t1)?;
     if trip < 0 {
-        return OffsetAnswer::Refused(refusals::ARRIVED_BEFORE_SENT);
+        return Err(Refusal::ArrivedBeforeSent);
     }
     if Timestamp::LIMIT < trip {
-        return OffsetAnswer::Refused(refusals::ARRIVED_TOO_LATE);
+        return Err(Refusal::ArrivedTooLate);
     }
-    let Difference::Units(hold) = t3.minus(t2) else {
-        return OffsetAnswer::Refused(refusals::NO_ORDER);
-    };
+    let hold = difference(t3, t2)?;
     if hold < 0 {
-        return OffsetAnswer::Refused(refusals::ANSWERED_BEFORE_RECEIVED);
+        return Err(Refusal::AnsweredBeforeReceived);
     }
     if trip < hold {
-        return OffsetAnswer::Refused(refusals::DELAY_NEGATIVE);
+        return Err(Refusal::DelayNegative);
     }
-    let Difference::Units(p) = t2.minus(t1) else {
-        return OffsetAnswer::Refused(refusals::NO_ORDER);
-    };
-    let Difference::Units(q) = t3.minus(t4) else {
-        return OffsetAnswer::Refused(refusals::NO_ORDER);
-    };
+    let p = difference(t2, t1)?;
+    let q = difference(t3, t4)?;
     if p < q {
-        return OffsetAnswer::Refused(refusals::FIRST_BELOW_SECOND);
+        return Err(Refusal::FirstBelowSecond);
     }
-    let halves = halve(p, q);
-    OffsetAnswer::Measured {
-        offset: halves.offset,
-        half: halves.half,
+    let Halves { offset, half } = halve(p, q);
+    Ok(Measurement {
+        offset,
+        half,
         delay: trip - hold,
-    }
+    })
 }

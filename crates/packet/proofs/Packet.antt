@@ -11,13 +11,13 @@ use lib.ListN.{length, drop, length-append}
 use lib.Seq.{sets, sets-eq}
 use Rattle.arithmetic.specs.Octets.{big_endian, octets, AreOctets}
 use Rattle.arithmetic.proofs.Octets.{length_octets, octets_big_endian}
-use Rattle.refusals.specs.Numbers.{packet_length_wrong}
-use Rattle.ordered_tests.specs.Tests.{◌if◌else◌, otherwise, answer}
+use Rattle.ordered_tests.specs.Tests.{◌if◌else◌, otherwise, given}
 use Rattle.extension.specs.Reading.{is_malformed}
 use Rattle.extension.proofs.Reading.{taken_false}
 use Rattle.packet.specs.declared.Fields.{Fields}
-use Rattle.packet.specs.declared.FieldsAnswer.{FieldsAnswer}
-use Rattle.packet.specs.declared.WriteAnswer.{WriteAnswer}
+use Rattle.std.specs.Prelude.{Result, Ok, Err}
+use Rattle.refusals.specs.declared.Refusal.{Refusal}
+use Rattle.refusals.specs.declared.Refusal.TheVariants.{PacketLengthWrong}
 use Rattle.packet.specs.Packet.{fields_of, octets_of, header_answer, read_answer, is_field_too_large, write_answer, written}
 
 pub length_octets_of : (f : Fields) → length (octets_of f) ≡ 48
@@ -49,7 +49,7 @@ bounded f e =
 
 -- writing that is not refused
 module _ (b : List ℕ) (f : Fields) (long : 48 ≤ length b) (small : is_field_too_large f ≡ false) where
-  pub answer_written : write_answer b f ≡ WriteAnswer.Written
+  pub answer_written : write_answer b f ≡ Ok tt
   answer_written = rw (le-ltb (length b) 48 long, small)
 
   pub octets_written : written b f ≡ octets_of f ++ drop 48 b
@@ -62,19 +62,19 @@ module _ (b : List ℕ) (f : Fields) (long : 48 ≤ length b) (small : is_field_
 
 -- ---- what the answer of reading tells of the packet
 
-by_test : (malformed : Bool) (f : Fields) (P : Bool → FieldsAnswer → Type 0) → P true (FieldsAnswer.Refused packet_length_wrong) → P false (FieldsAnswer.Fields f)
-    → P malformed (answer FieldsAnswer.Refused (packet_length_wrong if malformed else otherwise (FieldsAnswer.Fields f)))
+by_test : (malformed : Bool) (f : Fields) (P : Bool → Result Fields Refusal → Type 0) → P true (Err PacketLengthWrong) → P false (Ok f)
+    → P malformed (given (PacketLengthWrong if malformed else otherwise f))
 by_test true f P x y = x
 by_test false f P x y = y
 
 -- the first 48 octets of what is not malformed
-pub header_fields : (p : List ℕ) → is_malformed p ≡ false → header_answer p ≡ FieldsAnswer.Fields (fields_of p)
+pub header_fields : (p : List ℕ) → is_malformed p ≡ false → header_answer p ≡ Ok (fields_of p)
 header_fields p e = rw (le-ltb _ _ (taken_false p e).at_least_48)
 
-pub read_refused : (p : List ℕ) {n : ℕ} → read_answer p ≡ FieldsAnswer.Refused n → (is_malformed p ≡ true) × (packet_length_wrong ≡ n)
-read_refused p {n} =
-    by_test (is_malformed p) (fields_of p) (λ b a. a ≡ FieldsAnswer.Refused n → (b ≡ true) × (packet_length_wrong ≡ n)) (λ e. (refl, (cc))) (λ e. ((cc), (cc)))
+pub read_refused : (p : List ℕ) {r : Refusal} → read_answer p ≡ Err r → (is_malformed p ≡ true) × (PacketLengthWrong ≡ r)
+read_refused p {r} =
+    by_test (is_malformed p) (fields_of p) (λ b a. a ≡ Err r → (b ≡ true) × (PacketLengthWrong ≡ r)) (λ e. (refl, (cc))) (λ e. ((cc), (cc)))
 
-pub read_fields : (p : List ℕ) {f : Fields} → read_answer p ≡ FieldsAnswer.Fields f → (is_malformed p ≡ false) × (fields_of p ≡ f)
+pub read_fields : (p : List ℕ) {f : Fields} → read_answer p ≡ Ok f → (is_malformed p ≡ false) × (fields_of p ≡ f)
 read_fields p {f} =
-    by_test (is_malformed p) (fields_of p) (λ b a. a ≡ FieldsAnswer.Fields f → (b ≡ false) × (fields_of p ≡ f)) (λ e. ((cc), (cc))) (λ e. (refl, (cc)))
+    by_test (is_malformed p) (fields_of p) (λ b a. a ≡ Ok f → (b ≡ false) × (fields_of p ≡ f)) (λ e. ((cc), (cc))) (λ e. (refl, (cc)))

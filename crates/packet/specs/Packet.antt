@@ -1,15 +1,14 @@
 -- The fields of a packet, its 48 octets, and what reading and writing give (docs/RULES.md, "The 48 octets" and "Numbers a caller may see").
-use Rattle.std.specs.Prelude.{ℕ, suc, ◌+◌, ◌-◌, ◌*◌, ◌/◌, ◌%◌, Bool, ◌||◌, List, ◌∷◌, ◌++◌, length, drop, get_or, ltb}
+use Rattle.std.specs.Prelude.{ℕ, suc, ◌+◌, ◌-◌, ◌*◌, ◌/◌, ◌%◌, Bool, ◌||◌, List, ◌∷◌, ◌++◌, length, drop, get_or, ltb, Result}
 use Rattle.arithmetic.specs.TwosComplement.{signed, bits}
 use Rattle.arithmetic.specs.Octets.{big_endian, octets, part}
-use Rattle.refusals.specs.Numbers.{packet_length_wrong, buffer_too_short, field_too_large}
-use Rattle.ordered_tests.specs.Tests.{Tests, ◌if◌else◌, otherwise, answer, kept}
+use Rattle.refusals.specs.declared.Refusal.{Refusal}
+use Rattle.refusals.specs.declared.Refusal.TheVariants.{PacketLengthWrong, BufferTooShort, FieldTooLarge}
+use Rattle.ordered_tests.specs.Tests.{Tests, ◌if◌else◌, otherwise, given, kept, pass}
 use Rattle.timestamp.specs.Timestamp.{timestamp}
 use Rattle.extension.specs.Tail.{header_length}
 use Rattle.extension.specs.Reading.{is_malformed}
 use Rattle.packet.specs.declared.Fields.{Fields}
-use Rattle.packet.specs.declared.FieldsAnswer.{FieldsAnswer}
-use Rattle.packet.specs.declared.WriteAnswer.{WriteAnswer}
 
 -- an octet of p, and the number that its octets from one index to another are
 abbrev pub octet : ℕ → List ℕ → ℕ
@@ -68,36 +67,36 @@ abbrev pub too_short : List ℕ → Bool
 too_short buffer = ltb (length buffer) packet_length
 
 -- reading the first 48 octets refuses by 7 what is shorter
-abbrev pub header_tests : List ℕ → Tests FieldsAnswer
+abbrev pub header_tests : List ℕ → Tests Fields
 header_tests packet =
-    packet_length_wrong if too_short packet else
-    otherwise (FieldsAnswer.Fields (fields_of packet))
+    PacketLengthWrong if too_short packet else
+    otherwise (fields_of packet)
 
-abbrev pub header_answer : List ℕ → FieldsAnswer
-header_answer packet = answer FieldsAnswer.Refused (header_tests packet)
+abbrev pub header_answer : List ℕ → Result Fields Refusal
+header_answer packet = given (header_tests packet)
 
 -- reading a packet refuses by 7 only
-abbrev pub read_tests : List ℕ → Tests FieldsAnswer
+abbrev pub read_tests : List ℕ → Tests Fields
 read_tests packet =
-    packet_length_wrong if is_malformed packet else
-    otherwise (FieldsAnswer.Fields (fields_of packet))
+    PacketLengthWrong if is_malformed packet else
+    otherwise (fields_of packet)
 
-abbrev pub read_answer : List ℕ → FieldsAnswer
-read_answer packet = answer FieldsAnswer.Refused (read_tests packet)
+abbrev pub read_answer : List ℕ → Result Fields Refusal
+read_answer packet = given (read_tests packet)
 
 -- a field that is too large to write
 abbrev pub is_field_too_large : Fields → Bool
 is_field_too_large f = ltb 3 f.leap || ltb 7 f.version || ltb 7 f.mode
 
 -- writing refuses by 1, then 27
-abbrev pub write_tests : List ℕ → Fields → Tests WriteAnswer
+abbrev pub write_tests : List ℕ → Fields → Tests (Unit {0})
 write_tests buffer f =
-    buffer_too_short if too_short buffer else
-    field_too_large if is_field_too_large f else
-    otherwise WriteAnswer.Written
+    BufferTooShort if too_short buffer else
+    FieldTooLarge if is_field_too_large f else
+    pass
 
-abbrev pub write_answer : List ℕ → Fields → WriteAnswer
-write_answer buffer f = answer WriteAnswer.Refused (write_tests buffer f)
+abbrev pub write_answer : List ℕ → Fields → Result (Unit {0}) Refusal
+write_answer buffer f = given (write_tests buffer f)
 
 -- what the buffer holds after writing
 abbrev pub written : List ℕ → Fields → List ℕ

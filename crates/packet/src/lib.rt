@@ -6,13 +6,14 @@ ghost use Rattle.std.proofs.lemmas.List.Edits.{sets};
 ghost use Rattle.arithmetic.specs.Octets.{octets};
 ghost use Rattle.packet.specs.Packet.{packet_length, fields_of, octets_of, is_field_too_large, header_answer, read_answer, write_answer, written};
 
+use refusals::Refusal;
 use timestamp::Timestamp;
 
 // The octets of a packet that has neither extension fields nor an authenticator.
 pub const LENGTH: usize = extension::HEADER_LENGTH;
 
 // `leap` is LI and `version` VN; root delay and root dispersion have 16 fraction bits.
-#[derive(Clone, Copy)]
+#[derive(Clone, Copy, Debug, PartialEq, Eq)]
 pub struct Fields {
     pub leap: u8,
     pub version: u8,
@@ -27,20 +28,6 @@ pub struct Fields {
     pub originate: Timestamp,
     pub receive: Timestamp,
     pub transmit: Timestamp,
-}
-
-// What writing a packet answers.
-#[derive(Clone, Copy)]
-pub enum WriteAnswer {
-    Refused(u8),
-    Written,
-}
-
-// What reading a packet answers.
-#[derive(Clone, Copy)]
-pub enum FieldsAnswer {
-    Refused(u8),
-    Fields(Fields),
 }
 
 // The fields of a packet that has at least 48 octets.
@@ -66,21 +53,21 @@ fn read_fields(p: &[u8]) -> Fields
 }
 
 // Reads the first 48 octets, whatever stands behind them. The slice is cut to a known length, so no field needs a test.
-pub fn read_header(packet: &[u8]) -> FieldsAnswer
+pub fn read_header(packet: &[u8]) -> Result<Fields, Refusal>
     ensures { result ≡ header_answer packet.now }
 {
     if packet.len() < LENGTH {
-        return FieldsAnswer::Refused(refusals::PACKET_LENGTH_WRONG);
+        return Err(Refusal::PacketLengthWrong);
     }
-    FieldsAnswer::Fields(read_fields(&packet[..LENGTH]))
+    Ok(read_fields(&packet[..LENGTH]))
 }
 
 // Reads the first 48 octets of a packet. Its extension fields and its authenticator are not read.
-pub fn read(packet: &[u8]) -> FieldsAnswer
+pub fn read(packet: &[u8]) -> Result<Fields, Refusal>
     ensures { result ≡ read_answer packet.now }
 {
     if extension::is_malformed(packet) {
-        return FieldsAnswer::Refused(refusals::PACKET_LENGTH_WRONG);
+        return Err(Refusal::PacketLengthWrong);
     }
     read_header(packet)
 }
@@ -123,12 +110,12 @@ fn first_word(fields: Fields) -> u32
     requires { is_field_too_large fields ≡ false }
     ensures { reverse (octets 4 result) ≡ take 4 (octets_of fields) }
 {
-    octets::be32(
-        twos_complement::bits8(fields.precision),
-        fields.poll,
-        fields.stratum,
+    u32::from_le_bytes([
         first_octet(fields.leap, fields.version, fields.mode),
-    )
+        fields.stratum,
+        fields.poll,
+        twos_complement::bits8(fields.precision),
+    ])
 }
 
 // Stores the 48 octets of fields that are not too large.
@@ -152,16 +139,16 @@ fn put_fields(b: &mut [u8], fields: Fields)
 }
 
 // Writes the fields into the first 48 octets of the buffer.
-pub fn write(buffer: &mut [u8], fields: Fields) -> WriteAnswer
+pub fn write(buffer: &mut [u8], fields: Fields) -> Result<(), Refusal>
     ensures answer { result ≡ write_answer buffer.old fields }
     ensures buffer { buffer.new ≡ written buffer.old fields }
 {
     if buffer.len() < LENGTH {
-        return WriteAnswer::Refused(refusals::BUFFER_TOO_SHORT);
+        return Err(Refusal::BufferTooShort);
     }
     if field_too_large(fields) {
-        return WriteAnswer::Refused(refusals::FIELD_TOO_LARGE);
+        return Err(Refusal::FieldTooLarge);
     }
     put_fields(buffer, fields);
-    WriteAnswer::Written
+    Ok(())
 }

@@ -1,5 +1,5 @@
 -- The smallest power of two not below a tick, found by a search and by a length in bits, and its exponent as an octet.
-use mathlib.Core.Path.{◌≡◌, refl, ◌∙◌}
+use mathlib.Core.Path.{◌≡◌, refl}
 use mathlib.Core.Bool.{Bool, true, false, cond}
 use Prim.Native.Nat.{ℕ, zero, suc, ◌-◌, ◌^◌, ◌≤◌, ◌<◌}
 use native.Mathlib.Nat.{lt_of_not-le}
@@ -10,10 +10,8 @@ use lib.Dec.{leb}
 use lib.IntN.{pos, ◌-ℤ◌}
 use lib.Pow.{pow_mono}
 use mir.Syntax.{w8}
-use mir.Val.{SFits, to_z, of_z}
-use mir.Facts.{to_z_pos, to_z-of_z}
-use Rattle.arithmetic.proofs.Integers.{integers, minus}
-use Rattle.arithmetic.proofs.Machine.{integers_fits}
+use mir.Val.{to_z, of_z}
+use Rattle.std.proofs.lemmas.Int.{ints}
 use Rattle.precision.specs.Precision.{least}
 use Rattle.precision.specs.SmallestPower.{Smallest}
 
@@ -50,13 +48,6 @@ length_is t p h =
     let b = least_smallest t 32 h in
     omega (arith, s.1, smallest_le t s.0 (least t 32) a b, smallest_le t (least t 32) s.0 b a)
 
--- k - 32 is an octet for any length k, and is read back as it is
-module _ (k : ℕ) (h : k ≤ 64) where
-  read : to_z w8 k ≡ pos k
-  read = to_z_pos w8 (omega arith)
-
-  pub octet_fits : SFits w8 (to_z w8 k -ℤ pos 32)
-  octet_fits = rw read (integers_fits w8 (pos k -ℤ pos 32) (omega (arith, integers, minus (pos k) (pos 32))))
-
-  pub octet_is : to_z w8 (of_z w8 (to_z w8 k -ℤ pos 32)) ≡ pos k -ℤ pos 32
-  octet_is = to_z-of_z octet_fits ∙ rw read refl
+-- that length less 32, as the code computes it in an octet
+pub octet_is : (t : ℕ) → (t ≡ 0 → ⊥) → t ≤ 2 ^ 32 → to_z w8 (of_z w8 (to_z w8 (64 - count_leading_zeros 64 (t - 1)) -ℤ pos 32)) ≡ pos (least t 32) -ℤ pos 32
+octet_is t p h = rw (length_is t p h) (let l = least_le t 32 in omega (arith, ints))

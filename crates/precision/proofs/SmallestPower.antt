@@ -6,11 +6,10 @@ use borrow.Author.Tests.{ne_eqb, le-ltb}
 use lib.IntN.{pos, ◌-ℤ◌}
 use Rattle.precision.specs.Precision.{least, precision_of}
 use Rattle.precision.specs.SmallestPower.{SmallestPower}
-use Rattle.precision.specs.declared.PrecisionAnswer.TheVariants.{Precision}
+use Rattle.std.specs.Prelude.{Ok}
 use Rattle.precision.proofs.Least.{least_smallest}
 
-taken : (tick : ℕ) → 1 ≤ tick → tick ≤ 2 ^ 32 → precision_of tick ≡ Precision (pos (least tick 32) -ℤ pos 32)
-unfolding precision_of
+taken : (tick : ℕ) → 1 ≤ tick → tick ≤ 2 ^ 32 → precision_of tick ≡ Ok (pos (least tick 32) -ℤ pos 32)
 taken tick some h = simp (ne_eqb tick 0 λ e. omega arith, le-ltb _ _ h)
 
 pub smallest_power : SmallestPower

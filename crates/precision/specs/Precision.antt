@@ -1,9 +1,8 @@
 -- The precision octet of a clock's tick (docs/RULES.md, "The 48 octets"). "Tick" is the rules' term: the step of a clock, in units of 2^-32 s.
-use Rattle.std.specs.Prelude.{ℕ, zero, suc, ◌^◌, cond, ◌||◌, eqb, leb, ltb, pos, ◌-ℤ◌}
-use Rattle.refusals.specs.Numbers.{tick_out_of_range}
-use Rattle.ordered_tests.specs.Tests.{Tests, ◌if◌else◌, otherwise, answer}
-use Rattle.precision.specs.declared.PrecisionAnswer.{PrecisionAnswer}
-use Rattle.precision.specs.declared.PrecisionAnswer.TheVariants.{Refused, Precision}
+use Rattle.std.specs.Prelude.{ℕ, zero, suc, ◌^◌, cond, ◌||◌, eqb, leb, ltb, ℤ, pos, ◌-ℤ◌, Result}
+use Rattle.refusals.specs.declared.Refusal.{Refusal}
+use Rattle.refusals.specs.declared.Refusal.TheVariants.{TickOutOfRange}
+use Rattle.ordered_tests.specs.Tests.{Tests, ◌if◌else◌, otherwise, given}
 
 -- the least k up to n with tick ≤ 2 ^ k, and n where there is none
 unfoldable pub least : ℕ → ℕ → ℕ
@@ -11,10 +10,10 @@ least tick zero = zero
 least tick (suc n) = cond (leb tick (2 ^ least tick n)) (least tick n) (suc n)
 
 -- the exponent of the smallest power of two not below the tick; 2 ^ k units are 2 ^ (k - 32) seconds
-abbrev pub precision_tests : ℕ → Tests PrecisionAnswer
+abbrev pub precision_tests : ℕ → Tests ℤ
 precision_tests tick =
-    tick_out_of_range if eqb tick 0 || ltb (2 ^ 32) tick else
-    otherwise (Precision (pos (least tick 32) -ℤ pos 32))
+    TickOutOfRange if eqb tick 0 || ltb (2 ^ 32) tick else
+    otherwise (pos (least tick 32) -ℤ pos 32)
 
-unfoldable pub precision_of : ℕ → PrecisionAnswer
-precision_of tick = answer Refused (precision_tests tick)
+abbrev pub precision_of : ℕ → Result ℤ Refusal
+precision_of tick = given (precision_tests tick)

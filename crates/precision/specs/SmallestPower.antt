@@ -1,7 +1,6 @@
 -- The law of the precision octet: a tick that is taken is answered by the smallest power of two not below it.
-use Rattle.std.specs.Prelude.{◌≡◌, ℕ, ◌^◌, ◌≤◌, ◌<◌, pos, ◌-ℤ◌}
+use Rattle.std.specs.Prelude.{◌≡◌, ℕ, ◌^◌, ◌≤◌, ◌<◌, pos, ◌-ℤ◌, Ok}
 use Rattle.precision.specs.Precision.{precision_of}
-use Rattle.precision.specs.declared.PrecisionAnswer.TheVariants.{Precision}
 
 -- 2 ^ k is not below the tick, and every smaller power of two is
 pub record Smallest (tick k : ℕ) : Type 0 where
@@ -12,4 +11,4 @@ pub record Smallest (tick k : ℕ) : Type 0 where
 abbrev pub SmallestPower : Type 0
 SmallestPower =
     (tick : ℕ) → 1 ≤ tick → tick ≤ 2 ^ 32
-    → (k : ℕ) × Smallest tick k × (precision_of tick ≡ Precision (pos k -ℤ pos 32))
+    → (k : ℕ) × Smallest tick k × (precision_of tick ≡ Ok (pos k -ℤ pos 32))

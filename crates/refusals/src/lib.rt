@@ -1,201 +1,224 @@
-// The numbers that a caller may see. Each has one name here and the same name in specs/Numbers.antt; `numbers` ties the two.
+// Why a call is refused: the rules' table has a row for each (docs/RULES.md, "Numbers a caller may see").
 #![tactic(auto)]
 
 ghost use Rattle.std.specs.Prelude.{◌≡◌};
-ghost use Rattle.refusals.specs.Numbers.{numbers};
+ghost use Rattle.refusals.specs.Numbers.{number, numbers};
 
-// Buffer under 48 octets.
-pub const BUFFER_TOO_SHORT: u8 = 1;
+use std::error::Error;
+use std::fmt;
 
-// Asked version not 1 to 4.
-pub const VERSION_UNSUPPORTED: u8 = 2;
+// Each has the number that C and the replay see.
+#[derive(Clone, Copy, Debug, PartialEq, Eq)]
+pub enum Refusal {
+    // Buffer under 48 octets.
+    BufferTooShort = 1,
 
-// Own clock reading zero.
-pub const OWN_CLOCK_ZERO: u8 = 3;
+    // Asked version not 1 to 4.
+    VersionUnsupported = 2,
 
-// Client stopped.
-pub const CLIENT_STOPPED: u8 = 4;
+    // Own clock reading zero.
+    OwnClockZero = 3,
 
-// Already waiting.
-pub const ALREADY_WAITING: u8 = 5;
+    // Client stopped.
+    ClientStopped = 4,
 
-// Asked before, and uptime is below that uptime or less than 2^exponent s past it.
-pub const ASKED_TOO_SOON: u8 = 6;
+    // Already waiting.
+    AlreadyWaiting = 5,
 
-// Packet shorter than 48 octets, longer than 1024, or with a tail that breaks the rules (docs/RULES.md, "Extension fields").
-pub const PACKET_LENGTH_WRONG: u8 = 7;
+    // Asked before, and uptime is below that uptime or less than 2^exponent s past it.
+    AskedTooSoon = 6,
 
-// Not waiting.
-pub const NOT_WAITING: u8 = 8;
+    // Packet shorter than 48 octets, longer than 1024, or with a tail that breaks the rules (docs/RULES.md, "Extension fields").
+    PacketLengthWrong = 7,
 
-// Originate differs from the request's transmit.
-pub const ORIGINATE_MISMATCH: u8 = 9;
+    // Not waiting.
+    NotWaiting = 8,
 
-// Mode not 4.
-pub const REPLY_MODE_WRONG: u8 = 10;
+    // Originate differs from the request's transmit.
+    OriginateMismatch = 9,
 
-// Version differs from the request's.
-pub const VERSION_MISMATCH: u8 = 11;
+    // Mode not 4.
+    ReplyModeWrong = 10,
 
-// LI 3.
-pub const SERVER_UNSYNCHRONISED: u8 = 12;
+    // Version differs from the request's.
+    VersionMismatch = 11,
 
-// Stratum above 15.
-pub const STRATUM_TOO_HIGH: u8 = 13;
+    // LI 3.
+    ServerUnsynchronised = 12,
 
-// Receive or transmit zero.
-pub const SERVER_TIMESTAMP_ZERO: u8 = 14;
+    // Stratum above 15.
+    StratumTooHigh = 13,
 
-// T4 - T1 negative.
-pub const ARRIVED_BEFORE_SENT: u8 = 15;
+    // Receive or transmit zero.
+    ServerTimestampZero = 14,
 
-// T4 - T1 above 2^36.
-pub const ARRIVED_TOO_LATE: u8 = 16;
+    // T4 - T1 negative.
+    ArrivedBeforeSent = 15,
 
-// T3 - T2 negative.
-pub const ANSWERED_BEFORE_RECEIVED: u8 = 17;
+    // T4 - T1 above 2^36.
+    ArrivedTooLate = 16,
 
-// D negative.
-pub const DELAY_NEGATIVE: u8 = 18;
+    // T3 - T2 negative.
+    AnsweredBeforeReceived = 17,
 
-// P below Q.
-pub const FIRST_BELOW_SECOND: u8 = 19;
+    // D negative.
+    DelayNegative = 18,
 
-// Uptime below the request's, or under 16 s past it.
-pub const GAVE_UP_TOO_SOON: u8 = 20;
+    // P below Q.
+    FirstBelowSecond = 19,
 
-// Request mode not 3.
-pub const REQUEST_MODE_WRONG: u8 = 21;
+    // Uptime below the request's, or under 16 s past it.
+    GaveUpTooSoon = 20,
 
-// Request version not 1 to 4.
-pub const REQUEST_VERSION_UNSUPPORTED: u8 = 22;
+    // Request mode not 3.
+    RequestModeWrong = 21,
 
-// Set LI not 0 to 2, or set precision not in -32 to 0.
-pub const SETTINGS_OUT_OF_RANGE: u8 = 23;
+    // Request version not 1 to 4.
+    RequestVersionUnsupported = 22,
 
-// Timestamp zero, also one that a date or a Unix time would have.
-pub const TIMESTAMP_ZERO: u8 = 24;
+    // Set LI not 0 to 2, or set precision not in -32 to 0.
+    SettingsOutOfRange = 23,
 
-// No such date or time, or nanoseconds of 10^9 or more.
-pub const NO_SUCH_DATE: u8 = 25;
+    // Timestamp zero, also one that a date or a Unix time would have.
+    TimestampZero = 24,
 
-// Outside 1968-01-20 03:14:08 to 2104-02-26 09:42:23, fractions included.
-pub const OUTSIDE_WINDOW: u8 = 26;
+    // No such date or time, or nanoseconds of 10^9 or more.
+    NoSuchDate = 25,
 
-// Field to write too large (LI over 3, VN or mode over 7; for C also a number that the 8, 16 or 32 bits of its field do not hold).
-pub const FIELD_TOO_LARGE: u8 = 27;
+    // Outside 1968-01-20 03:14:08 to 2104-02-26 09:42:23, fractions included.
+    OutsideWindow = 26,
 
-// Tick zero or above 2^32.
-pub const TICK_OUT_OF_RANGE: u8 = 28;
+    // Field to write too large (LI over 3, VN or mode over 7; for C also a number that the 8, 16 or 32 bits of its field do not hold).
+    FieldTooLarge = 27,
 
-// Record handed in not legal.
-pub const RECORD_NOT_LEGAL: u8 = 29;
+    // Tick zero or above 2^32.
+    TickOutOfRange = 28,
 
-// Half not 0 or 1, or an entry of 2^41 half units or more in size.
-pub const ENTRY_TOO_LARGE: u8 = 30;
+    // Record handed in not legal.
+    RecordNotLegal = 29,
 
-// The debt would reach 2^50 half units in size.
-pub const DEBT_TOO_LARGE: u8 = 31;
+    // Half not 0 or 1, or an entry of 2^41 half units or more in size.
+    EntryTooLarge = 30,
 
-// Limit not 1 to 2^32 half units.
-pub const LIMIT_OUT_OF_RANGE: u8 = 32;
+    // The debt would reach 2^50 half units in size.
+    DebtTooLarge = 31,
 
-// Root delay, signed, negative or 65536 or more.
-pub const ROOT_DELAY_OUT_OF_RANGE: u8 = 33;
+    // Limit not 1 to 2^32 half units.
+    LimitOutOfRange = 32,
 
-// Root dispersion, unsigned, 65536 or more.
-pub const ROOT_DISPERSION_TOO_LARGE: u8 = 34;
+    // Root delay, signed, negative or 65536 or more.
+    RootDelayOutOfRange = 33,
 
-// List of records empty or of more than eight, or a record number, the one in use included, not in it.
-pub const NOT_IN_LIST: u8 = 35;
+    // Root dispersion, unsigned, 65536 or more.
+    RootDispersionTooLarge = 34,
 
-// Broadcast packet: mode not 5.
-pub const BROADCAST_MODE_WRONG: u8 = 36;
+    // List of records empty or of more than eight, or a record number, the one in use included, not in it.
+    NotInList = 35,
 
-// Broadcast packet: VN not 1 to 4.
-pub const BROADCAST_VERSION_UNSUPPORTED: u8 = 37;
+    // Broadcast packet: mode not 5.
+    BroadcastModeWrong = 36,
 
-// Broadcast packet: LI 3.
-pub const BROADCAST_UNSYNCHRONISED: u8 = 38;
+    // Broadcast packet: VN not 1 to 4.
+    BroadcastVersionUnsupported = 37,
 
-// Broadcast packet: stratum not 1 to 15.
-pub const BROADCAST_STRATUM_WRONG: u8 = 39;
+    // Broadcast packet: LI 3.
+    BroadcastUnsynchronised = 38,
 
-// Broadcast packet: transmit timestamp zero.
-pub const BROADCAST_TRANSMIT_ZERO: u8 = 40;
+    // Broadcast packet: stratum not 1 to 15.
+    BroadcastStratumWrong = 39,
 
-// Set poll not 4 to 14.
-pub const POLL_OUT_OF_RANGE: u8 = 41;
+    // Broadcast packet: transmit timestamp zero.
+    BroadcastTransmitZero = 40,
 
-// Token zero.
-pub const TOKEN_ZERO: u8 = 42;
+    // Set poll not 4 to 14.
+    PollOutOfRange = 41,
 
-// Two timestamps exactly 2^63 units apart: no order.
-pub const NO_ORDER: u8 = 43;
+    // Token zero.
+    TokenZero = 42,
 
-// Extension field not added: an authenticator at the end of the packet, or no room in the buffer or in 1024 octets.
-pub const FIELD_NOT_ADDED: u8 = 44;
+    // Two timestamps exactly 2^63 units apart: no order.
+    NoOrder = 43,
 
-// Time Protocol: a length to read other than 4, or a buffer under 4.
-pub const TIME_LENGTH_WRONG: u8 = 45;
+    // Extension field not added: an authenticator at the end of the packet, or no room in the buffer or in 1024 octets.
+    FieldNotAdded = 44,
 
-// C: an image that is not 32 octets or that no legal record has, also one of a list, or an answer slice that is not 24.
-pub const IMAGE_NOT_LEGAL: u8 = 46;
+    // Time Protocol: a length to read other than 4, or a buffer under 4.
+    TimeLengthWrong = 45,
 
-// Replay line malformed.
-pub const LINE_MALFORMED: u8 = 64;
+    // C: an image that is not 32 octets or that no legal record has, also one of a list, or an answer slice that is not 24.
+    ImageNotLegal = 46,
 
-// All of them, in the order of the rules' table.
+    // Replay line malformed.
+    LineMalformed = 64,
+}
+
+impl Refusal {
+    pub fn number(self) -> u8
+        ensures { result ≡ number self }
+    {
+        self as u8
+    }
+}
+
+impl fmt::Display for Refusal {
+    fn fmt<W: fmt::Write>(&self, f: &mut fmt::Formatter<W>) -> fmt::Result {
+        write!(f, "refused {}", self.number())
+    }
+}
+
+impl Error for Refusal {}
+
+// The numbers of all refusals, in the order of the rules' table.
 pub fn numbers() -> [u8; 47]
     ensures { result ≡ numbers }
 {
     [
-        BUFFER_TOO_SHORT,
-        VERSION_UNSUPPORTED,
-        OWN_CLOCK_ZERO,
-        CLIENT_STOPPED,
-        ALREADY_WAITING,
-        ASKED_TOO_SOON,
-        PACKET_LENGTH_WRONG,
-        NOT_WAITING,
-        ORIGINATE_MISMATCH,
-        REPLY_MODE_WRONG,
-        VERSION_MISMATCH,
-        SERVER_UNSYNCHRONISED,
-        STRATUM_TOO_HIGH,
-        SERVER_TIMESTAMP_ZERO,
-        ARRIVED_BEFORE_SENT,
-        ARRIVED_TOO_LATE,
-        ANSWERED_BEFORE_RECEIVED,
-        DELAY_NEGATIVE,
-        FIRST_BELOW_SECOND,
-        GAVE_UP_TOO_SOON,
-        REQUEST_MODE_WRONG,
-        REQUEST_VERSION_UNSUPPORTED,
-        SETTINGS_OUT_OF_RANGE,
-        TIMESTAMP_ZERO,
-        NO_SUCH_DATE,
-        OUTSIDE_WINDOW,
-        FIELD_TOO_LARGE,
-        TICK_OUT_OF_RANGE,
-        RECORD_NOT_LEGAL,
-        ENTRY_TOO_LARGE,
-        DEBT_TOO_LARGE,
-        LIMIT_OUT_OF_RANGE,
-        ROOT_DELAY_OUT_OF_RANGE,
-        ROOT_DISPERSION_TOO_LARGE,
-        NOT_IN_LIST,
-        BROADCAST_MODE_WRONG,
-        BROADCAST_VERSION_UNSUPPORTED,
-        BROADCAST_UNSYNCHRONISED,
-        BROADCAST_STRATUM_WRONG,
-        BROADCAST_TRANSMIT_ZERO,
-        POLL_OUT_OF_RANGE,
-        TOKEN_ZERO,
-        NO_ORDER,
-        FIELD_NOT_ADDED,
-        TIME_LENGTH_WRONG,
-        IMAGE_NOT_LEGAL,
-        LINE_MALFORMED,
+        Refusal::BufferTooShort.number(),
+        Refusal::VersionUnsupported.number(),
+        Refusal::OwnClockZero.number(),
+        Refusal::ClientStopped.number(),
+        Refusal::AlreadyWaiting.number(),
+        Refusal::AskedTooSoon.number(),
+        Refusal::PacketLengthWrong.number(),
+        Refusal::NotWaiting.number(),
+        Refusal::OriginateMismatch.number(),
+        Refusal::ReplyModeWrong.number(),
+        Refusal::VersionMismatch.number(),
+        Refusal::ServerUnsynchronised.number(),
+        Refusal::StratumTooHigh.number(),
+        Refusal::ServerTimestampZero.number(),
+        Refusal::ArrivedBeforeSent.number(),
+        Refusal::ArrivedTooLate.number(),
+        Refusal::AnsweredBeforeReceived.number(),
+        Refusal::DelayNegative.number(),
+        Refusal::FirstBelowSecond.number(),
+        Refusal::GaveUpTooSoon.number(),
+        Refusal::RequestModeWrong.number(),
+        Refusal::RequestVersionUnsupported.number(),
+        Refusal::SettingsOutOfRange.number(),
+        Refusal::TimestampZero.number(),
+        Refusal::NoSuchDate.number(),
+        Refusal::OutsideWindow.number(),
+        Refusal::FieldTooLarge.number(),
+        Refusal::TickOutOfRange.number(),
+        Refusal::RecordNotLegal.number(),
+        Refusal::EntryTooLarge.number(),
+        Refusal::DebtTooLarge.number(),
+        Refusal::LimitOutOfRange.number(),
+        Refusal::RootDelayOutOfRange.number(),
+        Refusal::RootDispersionTooLarge.number(),
+        Refusal::NotInList.number(),
+        Refusal::BroadcastModeWrong.number(),
+        Refusal::BroadcastVersionUnsupported.number(),
+        Refusal::BroadcastUnsynchronised.number(),
+        Refusal::BroadcastStratumWrong.number(),
+        Refusal::BroadcastTransmitZero.number(),
+        Refusal::PollOutOfRange.number(),
+        Refusal::TokenZero.number(),
+        Refusal::NoOrder.number(),
+        Refusal::FieldNotAdded.number(),
+        Refusal::TimeLengthWrong.number(),
+        Refusal::ImageNotLegal.number(),
+        Refusal::LineMalformed.number(),
     ]
 }

@@ -1,5 +1,5 @@
--- What a call on the rest of an input says of its indices.
-use Rattle.std.proofs.Common.{ℕ, ◌+◌, ◌-◌, ◌≤◌, ◌<◌, ◌≡◌, List, [], ◌∷◌, length, take, drop, ap, arith, length-take, length-drop}
+-- What a call on what is left of an input says of its counts.
+use Rattle.std.proofs.Common.{ℕ, ◌≤◌, ◌≡◌, List, [], ◌∷◌, length, ap, arith}
 use Rattle.replay_lines.specs.declared.Replay.{Replay}
 use Rattle.replay_lines.specs.declared.Fed.{Fed}
 use Rattle.replay_lines.specs.Feed.{longest_line, ran, fed}
@@ -10,16 +10,9 @@ some : (r : Replay) (xs : List ℕ) (room : ℕ) → 1 ≤ length xs → longest
 some r [] room h k = absurd (omega arith)
 some r (c ∷ xs) room h k = pieces.goes_on r c xs room k
 
-module _ (r : Replay) (input : List ℕ) (at room : ℕ) (f : Fed) (h : at < length input)
-    (e : f ≡ fed (ran r (take (length input - at) (drop at input)) room)) where
-  abbrev part : List ℕ
-  part = take (length input - at) (drop at input)
+module _ (r : Replay) (left : List ℕ) (room : ℕ) {f : Fed} (e : f ≡ fed (ran r left room)) where
+  pub consumed_within : f.consumed ≤ length left
+  consumed_within = let w = (pieces.within r left room).0 in let t = ap (λ z. z.consumed) e in omega arith
 
-  length_part : length part ≡ length input - at
-  length_part = simp (length-take, length-drop) (omega arith)
-
-  pub consumed_within : at + f.consumed ≤ length input
-  consumed_within = let n = length_part in let w = (pieces.within r part room).0 in let t = ap (λ z. z.consumed) e in omega arith
-
-  pub takes : longest_line ≤ room → 1 ≤ f.consumed
-  takes k = rw (ap (λ z. z.consumed) e) (let n = length_part in some r part room (omega arith) k)
+  pub takes : 1 ≤ length left → longest_line ≤ room → 1 ≤ f.consumed
+  takes h k = let w = some r left room h k in let t = ap (λ z. z.consumed) e in omega arith

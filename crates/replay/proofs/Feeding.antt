@@ -1,7 +1,7 @@
 -- Feeding block after block comes to the replay of the whole.
-use Rattle.std.proofs.Common.{ℕ, ◌+◌, ◌-◌, ◌≤◌, ◌≡◌, Bool, true, false, List, [], ◌∷◌, ◌++◌, length, take, drop, Option, None, Some, IfSome, refl, sym, ap, ◌∙◌, arith, append_assoc}
+use Rattle.std.proofs.Common.{ℕ, ◌≤◌, ◌≡◌, Bool, true, false, List, [], ◌∷◌, ◌++◌, length, take, drop, Option, None, Some, IfSome, refl, sym, ap, ◌∙◌, arith, append_assoc}
 use Rattle.std.specs.Io.KnownBytes.{Keeps, Appends, Consumes, IsAtEnd}
-use Rattle.std.proofs.lemmas.List.{append-nil, drop-append-le, drop-drop, take_rest}
+use Rattle.std.proofs.lemmas.List.{append-nil, drop-append-le}
 use Rattle.std.proofs.Math.Seq.{take-append_seam}
 use Rattle.hex_decode.specs.Lines.{has_begun}
 use Rattle.replay_lines.specs.declared.Replay.{Replay}
@@ -92,22 +92,14 @@ consumes_both (Some a) (Some b) (Some c) xs ys h k = h ∙ ap (λ l. xs ++ l) k 
 pub written_part : (x : Ran) (f : Fed) (buffer buffer' : List ℕ) → f ≡ fed x → buffer' ≡ put x buffer → take f.written buffer' ≡ x.output
 written_part x f buffer buffer' e p = rw (e, p) (take-append_seam x.output (drop (length x.output) buffer))
 
-module _ (start r : Replay) (input : List ℕ) (at room : ℕ) (buffer buffer' : List ℕ) (f : Fed) (a b c : Option (List ℕ)) where
-  -- what is left of the input is offered
-  abbrev call : Ran
-  call = ran r (take (length input - at) (drop at input)) room
-
-  fed_more : {out : List ℕ} → Feeds start input r (drop at input) out → Feeds start input call.replay (drop (at + call.consumed) input) (out ++ call.output)
-  fed_more h = rw (take_rest input at, ← drop-drop (ran r (drop at input) room).consumed at input) (feeds_more room h)
-
-  -- a turn of the loop, which writes what the call put into its output
-  pub turn : f ≡ fed call → buffer' ≡ put call buffer → Answers start input r (drop at input) a b → Appends b c (take f.written buffer') →
-      Answers start input f.replay (drop (at + f.consumed) input) a c
-  turn e p h w = rw e (record {
-    out = h.out ++ call.output;
-    fed = fed_more h.fed;
-    wrote = appends_both a b c h.out call.output h.wrote (rw (written_part call f buffer buffer' e p) at w);
-  })
+-- a turn of the loop, which writes what the call put into its output
+pub turn : (r : Replay) (left buffer : List ℕ) (room : ℕ) {start : Replay} {input buffer' : List ℕ} {f : Fed} {a b c : Option (List ℕ)} → f ≡ fed (ran r left room) →
+    buffer' ≡ put (ran r left room) buffer → Answers start input r left a b → Appends b c (take f.written buffer') → Answers start input f.replay (drop f.consumed left) a c
+turn r left buffer room {buffer'} {f} {a} {b} {c} e p h w = rw e (record {
+  out = h.out ++ (ran r left room).output;
+  fed = feeds_more room h.fed;
+  wrote = appends_both a b c h.out (ran r left room).output h.wrote (rw (written_part (ran r left room) f buffer buffer' e p) at w);
+})
 
 pub keeps_same : (known : Option (List ℕ)) → Keeps known known
 keeps_same None = tt

@@ -1,9 +1,9 @@
 // Replays the lines of standard input through the client, and writes the answers to standard output as they come.
 #![tactic(auto)]
 
-ghost use Rattle.std.specs.Prelude.{◌≡◌, ◌≢◌, ◌≤◌, ◌<◌, [], length, IfOk, IfSome, OnOk, Ok};
+ghost use Rattle.std.specs.Prelude.{◌≡◌, ◌≤◌, ◌<◌, [], length, IfOk, IfSome, OnOk, Ok, Some};
 ghost use Rattle.std.specs.Io.KnownBytes.{Appends, IsAtEnd};
-ghost use Rattle.replay_lines.specs.Feed.{longest_line, begin, ran, ending};
+ghost use Rattle.replay_lines.specs.Feed.{longest_line, ran, ending};
 ghost use Rattle.replay_lines.specs.Replay.{replay};
 ghost use Rattle.replay.specs.Feeding.{Answers, AnswersRead, ReplaysRead};
 
@@ -14,98 +14,75 @@ use std::io::{Read, Write};
 // How much a turn reads and writes: few calls of the system for much input.
 const BLOCK: usize = 65536;
 
-// How the input stands after a read.
-#[derive(Clone, Copy)]
+// How reading ended.
+#[derive(Clone, Copy, Debug, PartialEq, Eq)]
 enum Reading {
-    GoesOn,
     AtEnd,
     Failed,
 }
 
-// Where the replay is, and how its input stands.
-#[derive(Clone, Copy)]
-struct State {
-    replay: Replay,
-    reading: Reading,
-}
-
 // Feeds all of the input; the output is written out as often as it is full. It has room for any one answer, so each turn takes something.
 fn feed_all<W: Write>(
-    start: Replay,
+    replay: &mut Replay,
     input: &[u8],
     output: &mut [u8],
     writer: &mut W,
-) -> io::Result<Replay>
+) -> io::Result<()>
     requires { longest_line ≤ length output.old }
-    ensures { IfOk result (λ r. Answers start input.now r [] (W.contents writer.old) (W.contents writer.new)) }
+    ensures { OnOk result (Answers replay.old input.now replay.new [] (W.contents writer.old) (W.contents writer.new)) }
 {
-    let mut replay = start;
-    let mut at = 0;
-    while at < input.len() {
-        let fed = replay.feed(&input[at..], output);
-        let n = fed.written;
-        writer.write_all(&output[..n])?;
-        replay = fed.replay;
-        at += fed.consumed;
+    let mut left = input;
+    while !left.is_empty() {
+        let fed = replay.feed(left, output);
+        writer.write_all(&output[..fed.written])?;
+        *replay = fed.replay;
+        left = &left[fed.consumed..];
     }
-    Ok(replay)
+    Ok(())
 }
 
-// A read error counts as the end of the input.
+// Reads a block and feeds it; answers how reading ended, if it did. A read error counts as the end of the input. Buffers, reader and writer stay parameters: a
+// struct of them would hold four borrows, and its contract would name the same four.
 fn read_some<R: Read, W: Write>(
-    state: State,
+    replay: &mut Replay,
     block: &mut [u8],
     output: &mut [u8],
     reader: &mut R,
     writer: &mut W,
-) -> io::Result<State>
+) -> io::Result<Option<Reading>>
     requires { longest_line ≤ length output.old }
-    ensures answered { IfOk result (λ s. AnswersRead state.replay s.replay (R.remaining reader.old) (R.remaining reader.new) (W.contents writer.old) (W.contents writer.new)) }
-    ensures end { IfOk result (λ s. 0 < length block.old → s.reading ≡ Reading.AtEnd → IsAtEnd (R.remaining reader.new)) }
+    ensures answered { OnOk result (AnswersRead replay.old replay.new (R.remaining reader.old) (R.remaining reader.new) (W.contents writer.old) (W.contents writer.new)) }
+    ensures end { IfOk result (λ ended. 0 < length block.old → ended ≡ Some Reading.AtEnd → IsAtEnd (R.remaining reader.new)) }
 {
-    let replay = state.replay;
     match reader.read(block) {
-        Ok(0) => Ok(State {
-            replay,
-            reading: Reading::AtEnd,
-        }),
-        Ok(n) => Ok(State {
-            replay: feed_all(replay, &block[..n], output, writer)?,
-            reading: Reading::GoesOn,
-        }),
-        Err(_) => Ok(State {
-            replay,
-            reading: Reading::Failed,
-        }),
+        Ok(0) => Ok(Some(Reading::AtEnd)),
+        Ok(n) => {
+            feed_all(replay, &block[..n], output, writer)?;
+            Ok(None)
+        }
+        Err(_) => Ok(Some(Reading::Failed)),
     }
 }
 
 // A proved loop has to end, and nothing says that the input does: the loop counts its turns, to a number that no run uses up. An input that is
 // longer would count as one whose read failed.
 fn read_all<R: Read, W: Write>(
+    replay: &mut Replay,
     block: &mut [u8],
     output: &mut [u8],
     reader: &mut R,
     writer: &mut W,
-) -> io::Result<State>
+) -> io::Result<Reading>
     requires { longest_line ≤ length output.old }
-    ensures answered { IfOk result (λ s. AnswersRead begin s.replay (R.remaining reader.old) (R.remaining reader.new) (W.contents writer.old) (W.contents writer.new)) }
-    ensures end { IfOk result (λ s. 0 < length block.old → s.reading ≡ Reading.AtEnd → IsAtEnd (R.remaining reader.new)) }
-    ensures stopped { IfOk result (λ s. s.reading ≢ Reading.GoesOn) }
+    ensures answered { OnOk result (AnswersRead replay.old replay.new (R.remaining reader.old) (R.remaining reader.new) (W.contents writer.old) (W.contents writer.new)) }
+    ensures end { IfOk result (λ reading. 0 < length block.old → reading ≡ Reading.AtEnd → IsAtEnd (R.remaining reader.new)) }
 {
-    let mut state = State {
-        replay: Replay::begin(),
-        reading: Reading::GoesOn,
-    };
     for _ in 0..u64::MAX {
-        state = read_some(state, block, output, reader, writer)?;
-        match state.reading {
-            Reading::GoesOn => {}
-            Reading::AtEnd | Reading::Failed => return Ok(state),
+        if let Some(reading) = read_some(replay, block, output, reader, writer)? {
+            return Ok(reading);
         }
     }
-    state.reading = Reading::Failed;
-    Ok(state)
+    Ok(Reading::Failed)
 }
 
 // Answers a line that is left over.
@@ -113,21 +90,20 @@ fn end_input<W: Write>(replay: Replay, output: &mut [u8], writer: &mut W) -> io:
     ensures { OnOk result (Appends (W.contents writer.old) (W.contents writer.new) (ran replay (ending replay) (length output.old)).output) }
 {
     let ended = replay.end(output);
-    let n = ended.written;
-    writer.write_all(&output[..n])
+    writer.write_all(&output[..ended.written])
 }
 
 // What is read is answered, also where a read fails. A failed write ends the run.
 fn run<R: Read, W: Write>(reader: &mut R, writer: &mut W) -> io::Result<Reading>
     ensures whole { result ≡ Ok Reading.AtEnd → IfSome (R.remaining reader.old) (λ input. Appends (W.contents writer.old) (W.contents writer.new) (replay input)) }
     ensures answered { OnOk result (ReplaysRead (R.remaining reader.old) (R.remaining reader.new) (W.contents writer.old) (W.contents writer.new)) }
-    ensures stopped { IfOk result (λ reading. reading ≢ Reading.GoesOn) }
 {
     let mut block = [0u8; BLOCK];
     let mut output = [0u8; BLOCK];
-    let state = read_all(&mut block, &mut output, reader, writer)?;
-    end_input(state.replay, &mut output, writer)?;
-    Ok(state.reading)
+    let mut replay = Replay::begin();
+    let reading = read_all(&mut replay, &mut block, &mut output, reader, writer)?;
+    end_input(replay, &mut output, writer)?;
+    Ok(reading)
 }
 
 fn main(rt: HostRuntime) -> io::Result<()> {
@@ -172,7 +148,7 @@ mod tests {
     fn failed_read(rt: HostRuntime) -> Result<(), Fail> {
         let mut written = Vec::new(rt.alloc());
         let reading = run(&mut Broken(b"\nA3"), &mut written)?;
-        assert!(rt; matches!(reading, Reading::Failed));
+        assert_eq!(rt; reading, Reading::Failed);
         assert_eq!(rt; written.as_slice(), b"40\n40\n".as_slice());
         Ok(())
     }

@@ -1,19 +1,18 @@
 -- What is answered to an input where there is always room: from the beginning that is the replay of the whole.
-use Prim.Native.Nat.{ℕ, ◌+◌, ◌*◌}
+use Prim.Native.Nat.{ℕ}
 use native.Mathlib.Omega.{arith}
 use mathlib.Core.Path.{◌≡◌, refl, sym, ap, ◌∙◌}
-use mathlib.Core.Bool.{Bool, true, false, cond, ◌||◌}
+use mathlib.Core.Bool.{Bool, true, false, cond}
 use mathlib.Core.List.{List, [], ◌∷◌, ◌++◌, append-nil}
 use borrow.Author.Tests.{leb-false, le-leb, lt-leb}
 use lib.Dec.{eqb, leb}
-use lib.ListN.{length, set, replicate, length-set, length-replicate}
+use lib.ListN.{length, replicate, length-replicate}
 use Rattle.client.specs.declared.Client.{Client}
 use Rattle.client.specs.Record.{fresh}
-use Rattle.hex_decode.specs.declared.Line.{Line}
-use Rattle.hex_decode.specs.Lines.{digit_of, start, pushed_buffer, has_begun}
+use Rattle.hex_decode.specs.Lines.{start, has_begun}
 use Rattle.hex_decode.specs.Decoding.{Frame, octets, malformed, decode, at_most, Held, next, after}
 use Rattle.hex_encode.specs.Text.{text}
-use Rattle.hex_decode.proofs.Decoding.{decoding}
+use Rattle.hex_decode.proofs.Decoding.{decoding, pushed_length}
 use Rattle.frames.specs.Frames.{longest_frame, call_of, answered, answered_frame}
 use Rattle.replay_lines.specs.declared.Replay.{Replay}
 use Rattle.replay_lines.specs.Replay as all
@@ -31,16 +30,6 @@ after_more h [] c = refl
 after_more h (x ∷ cs) c = after_more (next h x) cs c
 
 -- the buffer keeps its length
-pushed_length : (line : Line) (b : List ℕ) (c : ℕ) → length (pushed_buffer line b c) ≡ length b
-unfolding pushed_buffer
-pushed_length line b c = go (line.malformed || leb 16 (digit_of c)) (leb 16 line.high) (leb (length b) line.count)
-  where
-    go : (s t u : Bool) → length (cond s b (cond t b (cond u b (set b line.count (line.high * 16 + digit_of c))))) ≡ length b
-    go true t u = refl
-    go false true u = refl
-    go false false true = refl
-    go false false false = rw length-set
-
 after_length : (h : Held) (cs : List ℕ) → length (after h cs).buffer ≡ length h.buffer
 after_length h [] = refl
 after_length h (c ∷ cs) = after_length (next h c) cs ∙ pushed_length h.line h.buffer c

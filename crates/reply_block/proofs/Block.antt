@@ -2,7 +2,7 @@
 use Prim.Native.Nat.{ℕ, ◌+◌, ◌-◌, ◌*◌, ◌≤◌, ◌<◌}
 use native.Mathlib.Omega.{arith}
 use native.Mathlib.Numerals.{add-one}
-use mathlib.Core.Path.{◌≡◌, ◌∙◌}
+use mathlib.Core.Path.{◌≡◌, refl, ◌∙◌}
 use mathlib.Core.List.{List, ◌++◌}
 use lib.ListN.{take, drop, set}
 use Rattle.arithmetic.specs.Octets.{part}
@@ -29,9 +29,9 @@ module _ (s : Settings) (i : ℕ) (requests times replies : List ℕ) where
       put_back 48 replies (48 * i) (replied_buffer s (packet_at i requests) (receive_at i times) (transmit_at i times))
       (e ∙ rw (same_part 48 requests (48 * i)))
 
-  pub put_number : {number : ℕ} → number ≡ replied_number (replied s (lent requests) (receive_at i times) (transmit_at i times) (lent replies))
-      → number ≡ number_at s i requests times replies
-  put_number e = e ∙ rw (same_part 48 requests (48 * i), same_part 48 replies (48 * i))
+  pub put_number : (numbers : List ℕ) {number : ℕ} → number ≡ replied_number (replied s (lent requests) (receive_at i times) (transmit_at i times) (lent replies))
+      → set numbers i number ≡ set numbers i (number_at s i requests times replies)
+  put_number numbers e = rw (e, same_part 48 requests (48 * i), same_part 48 replies (48 * i))
 
 module _ (s : Settings) (requests times replies numbers : List ℕ) where
   abbrev replies_at : ℕ → List ℕ
@@ -53,6 +53,15 @@ module _ (s : Settings) (requests times replies numbers : List ℕ) where
     replies_length = length_replaced 48 replies replies_at n (each_reply n room) (omega arith);
     numbers_length = length_singles numbers numbers_at n (omega arith);
   }
+
+  -- no request
+  pub no_reply : replies ≡ block_replies s 0 requests times replies
+  unfolding block_replies
+  no_reply = refl
+
+  pub no_number : numbers ≡ block_numbers s 0 requests times replies numbers
+  unfolding block_numbers
+  no_number = refl
 
   -- one request more, where the replies to the first n stand in held
   module _ (n : ℕ) (room : n < block_count requests times replies numbers) (held : List ℕ) (is_held_lem : held ≡ block_replies s n requests times replies) where

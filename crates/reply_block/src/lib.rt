@@ -10,7 +10,6 @@ ghost use Rattle.reply_block.specs.Block.{block_count, number_at, reply_at, bloc
 
 use firmware::numbers::replied_number;
 use server_packet::Settings;
-use slices::least;
 use timestamp::Timestamp;
 
 pub mod c_entry;
@@ -27,13 +26,12 @@ fn reply_number(settings: Settings, request: &[u8], t2: u64, t3: u64, buffer: &m
 fn count(requests: usize, times: usize, replies: usize, numbers: usize) -> usize
     ensures { result ≡ min (min (requests / packet_length) (times / 2)) (min (replies / packet_length) numbers) }
 {
-    least(
-        least(requests / packet::LENGTH, times / 2),
-        least(replies / packet::LENGTH, numbers),
-    )
+    let asked = (requests / packet::LENGTH).min(times / 2);
+    asked.min((replies / packet::LENGTH).min(numbers))
 }
 
 // Replies to the request at place i, into the same place of the replies.
+#[tactic(auto, using(crate::proofs::Block::put_reply, crate::proofs::Block::put_number))]
 fn reply_at(
     settings: Settings,
     i: usize,
@@ -59,6 +57,7 @@ fn reply_at(
 
 // Replies to requests of 48 octets that stand one after another. `times` has the T2 and the T3 of each, `replies` gets a reply of 48 octets and `numbers` a
 // number for each, as `server::reply` gives them. As many are answered as all four have room for; that count is returned, and everything past it stays.
+#[tactic(auto, using(crate::proofs::Block::no_reply, crate::proofs::Block::no_number, crate::proofs::Block::next_replies, crate::proofs::Block::next_numbers))]
 pub fn reply_block(
     settings: Settings,
     requests: &[u8],
@@ -71,6 +70,7 @@ pub fn reply_block(
     ensures numbers { numbers.new ≡ block_numbers settings result requests.now times.now replies.old numbers.old }
 {
     let count = count(requests.len(), times.len(), replies.len(), numbers.len());
+    // By index: behind `chunks_exact_mut` and `zip` a proof knows the length of the replies alone, and not their octets.
     for i in 0..count {
         reply_at(settings, i, requests, times, replies, numbers);
     }

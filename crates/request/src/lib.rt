@@ -5,7 +5,8 @@ ghost use Rattle.std.specs.Prelude.{◌≡◌};
 ghost use Rattle.packet.specs.Packet.{write_answer, written};
 ghost use Rattle.request.specs.Request.{request_fields};
 
-use packet::{Fields, WriteAnswer};
+use packet::Fields;
+use refusals::Refusal;
 use timestamp::Timestamp;
 use token::Token;
 
@@ -31,7 +32,7 @@ fn fields(version: u8, token: Token) -> Fields
 }
 
 // Writes the 48 octets of a request into the buffer, as `packet::write` does.
-pub fn write(buffer: &mut [u8], version: u8, token: Token) -> WriteAnswer
+pub fn write(buffer: &mut [u8], version: u8, token: Token) -> Result<(), Refusal>
     ensures answer { result ≡ write_answer buffer.old (request_fields version token) }
     ensures buffer { buffer.new ≡ written buffer.old (request_fields version token) }
 {

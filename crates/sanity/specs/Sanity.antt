@@ -2,7 +2,8 @@
 -- and its four timestamps together after them.
 use Rattle.std.specs.Prelude.{ℕ, Bool, ◌||◌, eqb, leb, ltb, ℤ, pos}
 use Rattle.std.specs.Int.Signed.{le_z}
-use Rattle.refusals.specs.Numbers.{own_clock_zero, server_unsynchronised, stratum_too_high, server_timestamp_zero, root_delay_out_of_range, root_dispersion_too_large}
+use Rattle.refusals.specs.declared.Refusal.{Refusal}
+use Rattle.refusals.specs.declared.Refusal.TheVariants.{OwnClockZero, ServerUnsynchronised, StratumTooHigh, ServerTimestampZero, RootDelayOutOfRange, RootDispersionTooLarge}
 use Rattle.ordered_tests.specs.Tests.{Tests, ◌if◌else◌}
 use Rattle.timestamp.specs.declared.Timestamp.{Timestamp}
 use Rattle.timestamp.specs.Timestamp.{is_zero, negative}
@@ -11,10 +12,10 @@ use Rattle.packet.specs.declared.Fields.{Fields}
 -- the reply is of use; then the rest
 abbrev pub header_tests : {A : Type 0} → Fields → Timestamp → Tests A → Tests A
 header_tests f t4 rest =
-    own_clock_zero if is_zero t4 else
-    server_unsynchronised if eqb f.leap 3 else
-    stratum_too_high if ltb 15 f.stratum else
-    server_timestamp_zero if is_zero f.receive || is_zero f.transmit else
+    OwnClockZero if is_zero t4 else
+    ServerUnsynchronised if eqb f.leap 3 else
+    StratumTooHigh if ltb 15 f.stratum else
+    ServerTimestampZero if is_zero f.receive || is_zero f.transmit else
     rest
 
 -- a root delay, signed, and a root dispersion, unsigned, that are not at least 0 and below one second; they have 16 fraction bits, so that 65536 is one
@@ -28,6 +29,6 @@ is_root_dispersion_too_large dispersion = leb 65536 dispersion
 -- the server has not lost its own source (RFC 4330, section 5, check 5); then the rest
 abbrev pub root_tests : {A : Type 0} → Fields → Tests A → Tests A
 root_tests f rest =
-    root_delay_out_of_range if is_root_delay_out_of_range f.root_delay else
-    root_dispersion_too_large if is_root_dispersion_too_large f.root_dispersion else
+    RootDelayOutOfRange if is_root_delay_out_of_range f.root_delay else
+    RootDispersionTooLarge if is_root_dispersion_too_large f.root_dispersion else
     rest

@@ -1,7 +1,8 @@
 -- What the server replies to a request (docs/RULES.md, "The server").
-use Rattle.std.specs.Prelude.{ℕ, not, ◌&&◌, ◌||◌, List, ◌++◌, drop, ◌==◌}
-use Rattle.refusals.specs.Numbers.{buffer_too_short, packet_length_wrong, request_mode_wrong, request_version_unsupported, settings_out_of_range, server_timestamp_zero, answered_before_received, no_order}
-use Rattle.ordered_tests.specs.Tests.{Tests, ◌if◌else◌, otherwise, answer, kept, between}
+use Rattle.std.specs.Prelude.{ℕ, not, ◌&&◌, ◌||◌, List, ◌++◌, drop, ◌==◌, Result}
+use Rattle.refusals.specs.declared.Refusal.{Refusal}
+use Rattle.refusals.specs.declared.Refusal.TheVariants.{BufferTooShort, PacketLengthWrong, RequestModeWrong, RequestVersionUnsupported, SettingsOutOfRange, ServerTimestampZero, AnsweredBeforeReceived, NoOrder}
+use Rattle.ordered_tests.specs.Tests.{Tests, ◌if◌else◌, given, kept, between, pass}
 use Rattle.timestamp.specs.declared.Timestamp.{Timestamp}
 use Rattle.timestamp.specs.Timestamp.{is_zero, ◌since◌, has_no_order, negative}
 use Rattle.extension.specs.Reading.{is_malformed}
@@ -10,24 +11,22 @@ use Rattle.packet.specs.Packet.{packet_length, fields_of, octets_of, too_short}
 use Rattle.server_packet.specs.declared.Settings.{Settings}
 use Rattle.server_packet.specs.declared.Message.{Message}
 use Rattle.server_packet.specs.Packet.{out_of_range, packet_fields}
-use Rattle.server.specs.declared.ReplyAnswer.{ReplyAnswer}
-use Rattle.server.specs.declared.ReplyAnswer.TheVariants.{Refused, Written}
 
 -- the tests in order: those of a request with these fields, and before them those of its length and tail and of the buffer
-unfoldable pub request_tests : Settings → Fields → (t2 t3 : Timestamp) → Tests ReplyAnswer
+unfoldable pub request_tests : Settings → Fields → (t2 t3 : Timestamp) → Tests (Unit {0})
 request_tests s request t2 t3 =
-    request_mode_wrong if not (request.mode == 3) else
-    request_version_unsupported if not (between 1 4 request.version) else
-    settings_out_of_range if out_of_range s else
-    server_timestamp_zero if s.synchronised && (is_zero t2 || is_zero t3) else
-    no_order if s.synchronised && has_no_order (t3 since t2) else
-    answered_before_received if s.synchronised && negative (t3 since t2) else
-    otherwise Written
+    RequestModeWrong if not (request.mode == 3) else
+    RequestVersionUnsupported if not (between 1 4 request.version) else
+    SettingsOutOfRange if out_of_range s else
+    ServerTimestampZero if s.synchronised && (is_zero t2 || is_zero t3) else
+    NoOrder if s.synchronised && has_no_order (t3 since t2) else
+    AnsweredBeforeReceived if s.synchronised && negative (t3 since t2) else
+    pass
 
-unfoldable pub reply_tests : Settings → List ℕ → (t2 t3 : Timestamp) → List ℕ → Tests ReplyAnswer
+unfoldable pub reply_tests : Settings → List ℕ → (t2 t3 : Timestamp) → List ℕ → Tests (Unit {0})
 reply_tests s request t2 t3 buffer =
-    buffer_too_short if too_short buffer else
-    packet_length_wrong if is_malformed request else
+    BufferTooShort if too_short buffer else
+    PacketLengthWrong if is_malformed request else
     request_tests s (fields_of request) t2 t3
 
 -- the reply has mode 4, copies VN and poll, and has the request's transmit timestamp as originate
@@ -45,8 +44,8 @@ abbrev pub reply_fields : Settings → Fields → (t2 t3 : Timestamp) → Fields
 reply_fields s request t2 t3 = packet_fields s (reply_message request t2 t3)
 
 -- what the call answers, and what the buffer holds after it
-unfoldable pub replied : Settings → List ℕ → (t2 t3 : Timestamp) → List ℕ → ReplyAnswer
-replied s request t2 t3 buffer = answer Refused (reply_tests s request t2 t3 buffer)
+unfoldable pub replied : Settings → List ℕ → (t2 t3 : Timestamp) → List ℕ → Result (Unit {0}) Refusal
+replied s request t2 t3 buffer = given (reply_tests s request t2 t3 buffer)
 
 unfoldable pub replied_buffer : Settings → List ℕ → (t2 t3 : Timestamp) → List ℕ → List ℕ
 replied_buffer s request t2 t3 buffer =

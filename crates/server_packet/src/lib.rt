@@ -2,10 +2,11 @@
 #![tactic(auto)]
 
 ghost use Rattle.std.specs.Prelude.{◌≡◌};
-ghost use Rattle.packet.specs.Packet.{written};
-ghost use Rattle.server_packet.specs.Packet.{out_of_range, packet_with, synchronised_fields, unsynchronised_fields, packet_fields};
+ghost use Rattle.packet.specs.Packet.{write_answer, written};
+ghost use Rattle.server_packet.specs.Packet.{out_of_range, synchronised_fields, unsynchronised_fields, packet_fields};
 
 use packet::Fields;
+use refusals::Refusal;
 use timestamp::Timestamp;
 
 // `leap` is LI; `identifier` and `reference` say from where and when the server's clock was last set.
@@ -30,84 +31,63 @@ pub struct Message {
 }
 
 // Set LI not 0 to 2, or set precision not in -32 to 0.
+#[tactic(auto, unfolding(crate::specs::Packet::out_of_range))]
 pub fn out_of_range(settings: Settings) -> bool
     ensures { result ≡ out_of_range settings }
 {
     (2 < settings.leap) | (settings.precision < -32) | (0 < settings.precision)
 }
 
-// The fields of a packet. Those that depend on whether the server is synchronised are given.
-fn packet_with(
-    settings: Settings,
-    message: Message,
-    leap: u8,
-    stratum: u8,
-    identifier: u32,
-    reference: Timestamp,
-    receive: Timestamp,
-    transmit: Timestamp,
-) -> Fields
-    ensures { result ≡ packet_with settings message leap stratum identifier reference receive transmit }
+fn synchronised_fields(settings: Settings, message: Message) -> Fields
+    ensures { result ≡ synchronised_fields settings message }
 {
-    let originate = message.originate;
     Fields {
-        leap,
+        leap: settings.leap,
         version: message.version,
         mode: message.mode,
-        stratum,
+        stratum: 1,
         poll: message.poll,
         precision: settings.precision,
         root_delay: 0,
         root_dispersion: 0,
-        identifier,
-        reference,
-        originate,
-        receive,
-        transmit,
+        identifier: settings.identifier,
+        reference: settings.reference,
+        originate: message.originate,
+        receive: message.receive,
+        transmit: message.transmit,
     }
-}
-
-fn synchronised_fields(settings: Settings, message: Message) -> Fields
-    ensures { result ≡ synchronised_fields settings message }
-{
-    let reference = settings.reference;
-    let receive = message.receive;
-    let transmit = message.transmit;
-    packet_with(
-        settings,
-        message,
-        settings.leap,
-        1,
-        settings.identifier,
-        reference,
-        receive,
-        transmit,
-    )
 }
 
 fn unsynchronised_fields(settings: Settings, message: Message) -> Fields
     ensures { result ≡ unsynchronised_fields settings message }
 {
-    packet_with(
-        settings,
-        message,
-        3,
-        0,
-        kiss::code(b"INIT"),
-        Timestamp::ZERO,
-        Timestamp::ZERO,
-        Timestamp::ZERO,
-    )
+    Fields {
+        leap: 3,
+        stratum: 0,
+        identifier: kiss::code(b"INIT"),
+        reference: Timestamp::ZERO,
+        receive: Timestamp::ZERO,
+        transmit: Timestamp::ZERO,
+        ..synchronised_fields(settings, message)
+    }
 }
 
-// Writes the packet where there is room for it and no field is too large. A write in each of the two cases: each compiles to stores of what it knows.
+// Writes the packet, as `packet::write` does. A write in each of the two cases: each compiles to stores of what it knows.
+#[tactic(auto, unfolding(crate::specs::Packet::packet_fields))]
+pub fn try_write(settings: Settings, message: Message, buffer: &mut [u8]) -> Result<(), Refusal>
+    ensures answer { result ≡ write_answer buffer.old (packet_fields settings message) }
+    ensures buffer { buffer.new ≡ written buffer.old (packet_fields settings message) }
+{
+    if settings.synchronised {
+        packet::write(buffer, synchronised_fields(settings, message))
+    } else {
+        packet::write(buffer, unsynchronised_fields(settings, message))
+    }
+}
+
+// The same where nothing is told of a refusal: then the buffer stays as it was.
 pub fn write(settings: Settings, message: Message, buffer: &mut [u8])
     ensures { buffer.new ≡ written buffer.old (packet_fields settings message) }
 {
-    let synchronised = settings.synchronised;
-    if synchronised {
-        packet::write(buffer, synchronised_fields(settings, message));
-    } else {
-        packet::write(buffer, unsynchronised_fields(settings, message));
-    }
+    let _ = try_write(settings, message, buffer);
 }

@@ -1,4 +1,5 @@
 -- A count and its four octets, and the second that it names.
+use Rattle.std.specs.Prelude.{Ok}
 use mathlib.Core.Path.{◌≡◌, refl, sym, ap, ◌∙◌}
 use mathlib.Core.Bool.{Bool, true, false, cond}
 use mathlib.Core.List.{List, ◌++◌}
@@ -21,26 +22,25 @@ use Rattle.calendar.proofs.RoundTrip.{date_seconds}
 use Rattle.calendar.proofs.OneToOne.{dated_has, one_to_one}
 use Rattle.time_protocol.specs.TimeProtocol.{written, read_answer, second_named}
 use Rattle.time_protocol.specs.Laws.{Laws}
-use Rattle.time_protocol.specs.declared.CountAnswer.{CountAnswer}
 use Rattle.time_protocol.proofs.Octets.{answer_written, octets_written, answer_read}
 
 -- ---- the octets
 
-count_back : (count : ℕ) (b : List ℕ) → count < 2 ^ 32 → 4 ≤ length b → read_answer (take 4 (written count b)) ≡ CountAnswer.Count count
+count_back : (count : ℕ) (b : List ℕ) → count < 2 ^ 32 → 4 ≤ length b → read_answer (take 4 (written count b)) ≡ Ok count
 count_back count b h room =
     ap (λ w. read_answer (take 4 w)) (octets_written b room count)
     ∙ ap read_answer (take_at (octets 4 count) (drop 4 b) 4 (length_octets 4 count))
     ∙ answer_read (octets 4 count) (length_octets 4 count)
-    ∙ ap CountAnswer.Count (big_endian_octets 4 count ∙ mod-eq_of_lt h)
+    ∙ ap Ok (big_endian_octets 4 count ∙ mod-eq_of_lt h)
 
-read_has : (p : List ℕ) (count : ℕ) → read_answer p ≡ CountAnswer.Count count → (length p ≡ 4) × (big_endian p ≡ count)
+read_has : (p : List ℕ) (count : ℕ) → read_answer p ≡ Ok count → (length p ≡ 4) × (big_endian p ≡ count)
 read_has p count q = go (eqb (length p) 4) refl
   where
     go : (b : Bool) → eqb (length p) 4 ≡ b → (length p ≡ 4) × (big_endian p ≡ count)
     go true e = let r = simp e at q in (eqb-true (length p) 4 e, cc)
-    go false e = let r = simp e at q in let z : ◌≡◌ {A = ℕ} 0 1 = cc in absurd (omega arith)
+    go false e = let r = simp e at q in cc
 
-octets_back : (p b : List ℕ) (count : ℕ) → AreOctets p → read_answer p ≡ CountAnswer.Count count → 4 ≤ length b → written count b ≡ p ++ drop 4 b
+octets_back : (p b : List ℕ) (count : ℕ) → AreOctets p → read_answer p ≡ Ok count → 4 ≤ length b → written count b ≡ p ++ drop 4 b
 octets_back p b count o q room =
     let h = read_has p count q in
     octets_written b room count ∙ ap (λ l. l ++ drop 4 b) (ap (octets 4) (sym h.1) ∙ octets_big_endian 4 p h.0 o)

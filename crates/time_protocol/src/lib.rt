@@ -4,36 +4,28 @@
 ghost use Rattle.std.specs.Prelude.{◌≡◌};
 ghost use Rattle.time_protocol.specs.TimeProtocol.{write_answer, written, read_answer};
 
-#[derive(Clone, Copy)]
-pub enum WriteAnswer {
-    Refused(u8),
-    Written,
-}
-
-#[derive(Clone, Copy)]
-pub enum CountAnswer {
-    Refused(u8),
-    Count(u32),
-}
+use refusals::Refusal;
 
 // Writes the count into the first four octets of the buffer. Refusals: 45.
-pub fn write(count: u32, buffer: &mut [u8]) -> WriteAnswer
+#[tactic(auto, using(crate::proofs::Octets::stored))]
+pub fn write(count: u32, buffer: &mut [u8]) -> Result<(), Refusal>
     ensures answer { result ≡ write_answer buffer.old }
     ensures buffer { buffer.new ≡ written count buffer.old }
 {
     if buffer.len() < 4 {
-        return WriteAnswer::Refused(refusals::TIME_LENGTH_WRONG);
+        return Err(Refusal::TimeLengthWrong);
     }
     slices::write_be32(buffer, 0, count);
-    WriteAnswer::Written
+    Ok(())
 }
 
 // The count of four octets. Refusals: 45.
-pub fn read(octets: &[u8]) -> CountAnswer
+#[tactic(auto, using(crate::proofs::Octets::number))]
+pub fn read(octets: &[u8]) -> Result<u32, Refusal>
     ensures { result ≡ read_answer octets.now }
 {
     if octets.len() != 4 {
-        return CountAnswer::Refused(refusals::TIME_LENGTH_WRONG);
+        return Err(Refusal::TimeLengthWrong);
     }
-    CountAnswer::Count(slices::read_be32(octets, 0))
+    Ok(slices::read_be32(octets, 0))
 }

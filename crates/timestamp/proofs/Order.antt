@@ -1,42 +1,44 @@
--- No order: which difference it is, the laws, and what an answer of the enum says of the difference.
-use Rattle.std.proofs.Common.{◌≡◌, ℕ, ◌+◌, ◌-◌, ◌*◌, ◌^◌, ◌<◌, ◌≤◌, Bool, true, false, cond, ◌≢◌, ℤ, pos, ◌-ℤ◌, neg_ℤ, nat_abs, sym, refl, ◌∙◌, arith, to_z-of_z, w64, SFits, eq-eqb, ne_eqb, eqb-true}
+-- No order: which difference it is, the laws, and what the answer says of the difference.
+use Rattle.std.proofs.Common.{◌≡◌, ℕ, ◌+◌, ◌-◌, ◌*◌, ◌%◌, ◌^◌, ◌<◌, ◌≤◌, Bool, true, false, cond, ◌≢◌, ℤ, pos, ◌-ℤ◌, neg_ℤ, nat_abs, sym, refl, ◌∙◌, arith, to_z-of_z, of_z, to_z, w64, SFits, eq-eqb, ne_eqb, eqb-true}
 use native.Mathlib.Decide.{dec_lt}
 use borrow.Author.Tests.{eqb-false}
+use mir.Facts.{of_z-to_z}
 use Rattle.arithmetic.specs.TwosComplement.{signed}
 use Rattle.arithmetic.proofs.Integers.{up, dn, integers, minus, neg, size_is}
 use Rattle.arithmetic.proofs.Modulo.{Congruent, near}
 use Rattle.arithmetic.proofs.Machine.{held, flags}
-use Rattle.arithmetic.proofs.TwosComplement.{signed_low, signed_high, difference_congruent, difference_fits}
+use Rattle.arithmetic.proofs.Machine.{signed_to_z}
+use Rattle.arithmetic.proofs.TwosComplement.{difference_wraps, signed_low, signed_high, difference_congruent, difference_fits}
 use Rattle.timestamp.specs.declared.Timestamp.{Timestamp}
-use Rattle.timestamp.specs.declared.Difference.{Difference}
-use Rattle.timestamp.specs.declared.Difference.TheVariants.{NoOrder, Units}
+use Rattle.std.specs.Prelude.{Option, Some, None, not, eqb}
+use Rattle.std.specs.Bool.{then_some}
 use Rattle.timestamp.specs.Timestamp.{◌since◌, has_no_order, ordered}
 use Rattle.timestamp.specs.Order.{Orders}
 
--- ---- the enum, taken apart
+-- ---- the answer, taken apart
 
 module _ (z : ℤ) where
-  pub order : has_no_order z ≡ false → ordered z ≡ Units z
+  pub order : has_no_order z ≡ false → ordered z ≡ Some z
   unfolding ordered
   order e = rw e
 
-  pub none : has_no_order z ≡ true → ordered z ≡ NoOrder
+  pub none : has_no_order z ≡ true → ordered z ≡ None
   unfolding ordered
   none e = rw e
 
-  pub from_none : ordered z ≡ NoOrder → has_no_order z ≡ true
+  pub from_none : ordered z ≡ None → has_no_order z ≡ true
   unfolding ordered
   from_none e = go (has_no_order z) e
     where
-      go : (b : Bool) → cond b NoOrder (Units z) ≡ NoOrder → b ≡ true
+      go : (b : Bool) → cond b None (Some z) ≡ None → b ≡ true
       go true e = refl
       go false e = cc
 
-  pub from_order : {r : ℤ} → ordered z ≡ Units r → (has_no_order z ≡ false) × (r ≡ z)
+  pub from_order : {r : ℤ} → ordered z ≡ Some r → (has_no_order z ≡ false) × (r ≡ z)
   unfolding ordered
   from_order {r} e = go (has_no_order z) e
     where
-      go : (b : Bool) → cond b NoOrder (Units z) ≡ Units r → (b ≡ false) × (r ≡ z)
+      go : (b : Bool) → cond b None (Some z) ≡ Some r → (b ≡ false) × (r ≡ z)
       go true e = (cc, cc)
       go false e = (refl, cc)
 
@@ -68,6 +70,35 @@ other_bits n h ne = half_not (signed 64 n) (go (dec_lt n (2 ^ 63)))
     go : Dec (n < 2 ^ 63) → nat_abs (signed 64 n) ≢ 2 ^ 63
     go (yes l) = rw (signed_low 64 n l) (omega arith)
     go (no f) = rw (signed_high 64 n (omega arith)) (omega (arith, size_is (pos n -ℤ pos (2 ^ 64)), minus (pos n) (pos (2 ^ 64))))
+
+-- ---- the difference as code takes it: modulo 2^64, read as a signed number; the language writes it back as its bits for a comparison
+
+module _ (x y : Timestamp) (h : x.0 < 2 ^ 64) (k : y.0 < 2 ^ 64) where
+  abbrev raw_bits : ℕ
+  raw_bits = (x.0 + (2 ^ 64 - y.0)) % 2 ^ 64
+
+  since_bits : x since y ≡ signed 64 raw_bits
+  unfolding ◌since◌
+  since_bits = difference_wraps 64 raw_bits x.0 y.0 (omega arith) (omega arith)
+
+  module _ {r : ℤ} (e : r ≡ to_z w64 raw_bits) where
+    back : of_z w64 r ≡ raw_bits
+    back = rw e (of_z-to_z {w = w64} (record { fits = omega arith }))
+
+    same_test : eqb (of_z w64 r) (2 ^ 63) ≡ has_no_order (x since y)
+    same_test = rw (back, since_bits) (go (eqb raw_bits (2 ^ 63)) refl)
+      where
+        go : (b : Bool) → eqb raw_bits (2 ^ 63) ≡ b → b ≡ has_no_order (signed 64 raw_bits)
+        go true e = sym (rw (eqb-true raw_bits (2 ^ 63) e) half_bits)
+        go false e = sym (other_bits raw_bits (omega arith) (eqb-false raw_bits (2 ^ 63) e))
+
+    pub differs : then_some (not (eqb (of_z w64 r) (2 ^ 63))) (to_z w64 (of_z w64 r)) ≡ ordered (x since y)
+    unfolding ordered
+    differs = rw (same_test, back, sym (signed_to_z w64 raw_bits (omega arith)), sym since_bits) (go (has_no_order (x since y)))
+      where
+        go : (b : Bool) → then_some (not b) (x since y) ≡ cond b None (Some (x since y))
+        go true = refl
+        go false = refl
 
 -- ---- the laws
 
@@ -165,9 +196,9 @@ orders x y h k = record {
 pub sfits : (x y : Timestamp) → SFits w64 (x since y)
 sfits x y = let f = fits x y in omega (arith, integers, flags)
 
-module _ (x y : Timestamp) {r : Difference} (e : r ≡ ordered (x since y)) where
-  pub unordered : r ≡ NoOrder → has_no_order (x since y) ≡ true
+module _ (x y : Timestamp) {r : Option ℤ} (e : r ≡ ordered (x since y)) where
+  pub unordered : r ≡ None → has_no_order (x since y) ≡ true
   unordered k = from_none (x since y) (sym e ∙ k)
 
-  pub taken : {v : ℤ} → r ≡ Units v → (has_no_order (x since y) ≡ false) × (held w64 v ≡ x since y)
+  pub taken : {v : ℤ} → r ≡ Some v → (has_no_order (x since y) ≡ false) × (held w64 v ≡ x since y)
   taken k = let (o, is) = from_order (x since y) (sym e ∙ k) in (o, rw is (to_z-of_z (sfits x y)))

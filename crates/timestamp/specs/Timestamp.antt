@@ -1,10 +1,8 @@
 -- Timestamps and their differences (docs/RULES.md, "Timestamps and their differences").
-use Rattle.std.specs.Prelude.{ℕ, ◌+◌, ◌*◌, ◌/◌, ◌%◌, ◌^◌, Bool, cond, ℤ, pos, ◌==◌, int_lt, unsigned_abs}
+use Rattle.std.specs.Prelude.{ℕ, ◌+◌, ◌*◌, ◌/◌, ◌%◌, ◌^◌, Bool, cond, ℤ, pos, ◌==◌, int_lt, unsigned_abs, Option, Some, None}
 use Rattle.arithmetic.specs.TwosComplement.{difference}
 use Rattle.timestamp.specs.declared.Timestamp.{Timestamp}
 use Rattle.timestamp.specs.declared.Constants.{Constants}
-use Rattle.timestamp.specs.declared.Difference.{Difference}
-use Rattle.timestamp.specs.declared.Difference.TheVariants.{NoOrder, Units}
 
 -- the timestamp of a number of units of 2^-32 s, and of 32 bits of seconds and 32 of fraction
 abbrev pub timestamp : ℕ → Timestamp
@@ -36,8 +34,8 @@ unfoldable pub has_no_order : ℤ → Bool
 has_no_order z = unsigned_abs z == 2 ^ 63
 
 -- what is answered of a difference
-unfoldable pub ordered : ℤ → Difference
-ordered z = cond (has_no_order z) NoOrder (Units z)
+unfoldable pub ordered : ℤ → Option ℤ
+ordered z = cond (has_no_order z) None (Some z)
 
 abbrev pub negative : ℤ → Bool
 negative z = int_lt z (pos 0)

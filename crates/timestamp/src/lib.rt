@@ -5,7 +5,7 @@ ghost use Rattle.std.specs.Prelude.{◌≡◌};
 ghost use Rattle.timestamp.specs.Timestamp.{timestamp, from_seconds, seconds_of, fraction_of, constants, is_zero, ◌since◌, ordered};
 
 // A type of its own: the type checker keeps it apart from a difference, which is an i64.
-#[derive(Clone, Copy)]
+#[derive(Clone, Copy, Debug, PartialEq, Eq)]
 pub struct Timestamp(pub u64);
 
 // The constants of the type, for `Timestamp::constants`.
@@ -15,13 +15,6 @@ pub struct Constants {
     pub second: u64,
     pub limit: i64,
     pub limit_seconds: u64,
-}
-
-// What a difference of two timestamps is: a number of units, or none where they are half a circle apart, 2^63 units, and neither is the earlier one.
-#[derive(Clone, Copy)]
-pub enum Difference {
-    NoOrder,
-    Units(i64),
 }
 
 impl Timestamp {
@@ -73,17 +66,14 @@ impl Timestamp {
     pub fn is_zero(self) -> bool
         ensures { result ≡ is_zero self }
     {
-        self.0 == Timestamp::ZERO.0
+        self == Timestamp::ZERO
     }
 
-    // The signed difference self - other, right also across the wrap of 2036.
-    pub fn minus(self, other: Timestamp) -> Difference
+    // The signed difference self - other, right also across the wrap of 2036. Half a circle apart, 2^63 units, neither of the two is the earlier one.
+    pub fn minus(self, other: Timestamp) -> Option<i64>
         ensures { result ≡ ordered (self since other) }
     {
-        let bits = std::num::wrapping_sub_u64(self.0, other.0);
-        if bits == 0x8000_0000_0000_0000 {
-            return Difference::NoOrder;
-        }
-        Difference::Units(twos_complement::signed64(bits))
+        let difference = self.0.wrapping_sub(other.0).cast_signed();
+        (difference != i64::MIN).then_some(difference)
     }
 }

@@ -7,7 +7,7 @@ ghost use Rattle.token.specs.Token.{is_zero_token, carried};
 
 use timestamp::Timestamp;
 
-#[derive(Clone, Copy)]
+#[derive(Clone, Copy, Debug, PartialEq, Eq)]
 pub struct Token(pub u64);
 
 impl Token {
@@ -17,10 +17,10 @@ impl Token {
     pub fn is_zero(self) -> bool
         ensures { result ≡ is_zero_token self }
     {
-        self.0 == Token::ZERO.0
+        self == Token::ZERO
     }
 
-    // The field of a packet that carries the token.
+    // The field of a packet that carries the token. No `From`: a token becomes a timestamp only here.
     pub fn field(self) -> Timestamp
         ensures { result ≡ carried self }
     {

@@ -1,43 +1,30 @@
 -- Unix seconds in numbers, as the code has them.
-use mathlib.Core.Path.{◌≡◌, refl, sym}
-use mathlib.Core.Bool.{true, false, true≢false}
-use Prim.Native.Nat.{◌+◌, ◌-◌, ◌^◌, ◌≤◌, ◌<◌}
+use mathlib.Core.Path.{◌≡◌, refl, sym, ap, ◌∙◌}
+use mathlib.Core.Bool.{Bool, true, false, true≢false}
+use Prim.Native.Nat.{ℕ, ◌+◌, ◌%◌, ◌^◌, ◌≤◌, ◌<◌}
 use native.Mathlib.Omega.{arith}
-use borrow.Author.Tests.{le-leb, lt-leb}
-use lib.IntN.{ℤ, pos, negsuc, ◌+ℤ◌, ◌-ℤ◌, nat_abs}
-use lib.Signed.{lt_z}
+use lib.IntN.{ℤ, pos, negsuc, ◌-ℤ◌, nat_abs}
 use mir.Syntax.{w64}
-use mir.Val.{SFits}
-use Rattle.timestamp.specs.declared.Timestamp.{Timestamp}
-use Rattle.timestamp.specs.Timestamp.{seconds_of}
-use Rattle.arithmetic.proofs.Integers.{integers, sum, minus, size_is}
-use Rattle.arithmetic.proofs.Machine.{lt_taken, lt_left}
+use mir.Val.{SFits, of_z, to_z}
+use Rattle.std.proofs.lemmas.Int.{ints}
+use Rattle.std.proofs.lemmas.Bool.{false_from_ne_true}
 use Rattle.calendar.specs.Gregorian.{leap_days, year_days, month_days, before}
 use Rattle.calendar.specs.Dates.{seconds_to, days_to}
-use Rattle.calendar.specs.Calendar.{start1900, start2036, window_start, window_end, seconds_at}
-use Rattle.calendar.proofs.Dates.{not_true_is_false, window_has, window_yes, bounds}
+use mathlib.Core.Bool.{not}
+use Rattle.refusals.specs.declared.Refusal.TheVariants.{OutsideWindow, TimestampZero}
+use Rattle.ordered_tests.specs.Tests.{◌if◌else◌, otherwise, given}
+use Rattle.timestamp.specs.Timestamp.{from_seconds, is_zero}
+use Rattle.calendar.specs.Calendar.{window_start, window_end, in_window, era_seconds, second_tests}
+use Rattle.calendar.proofs.Dates.{window_has, window_yes, bounds}
 use Rattle.unix_time.specs.UnixTime.{start1970, unix_second, from_year0, inside}
 
 pub start_1970 : start1970 ≡ 62167219200
 unfolding start1970 seconds_to days_to before year_days month_days leap_days
 start_1970 = refl
 
--- ---- the Unix second of a timestamp, by its top bit
-
-module _ (t : Timestamp) where
-  pub first_era : 2 ^ 31 ≤ seconds_of t → pos (seconds_of t) -ℤ pos 2208988800 ≡ unix_second (seconds_at t)
-  unfolding unix_second seconds_at
-  first_era h =
-      rw (le-leb (2 ^ 31) (seconds_of t) h)
-      (omega (arith, integers, bounds, start_1970, minus (pos (seconds_of t)) (pos 2208988800), minus (pos (start1900 + seconds_of t)) (pos start1970)))
-
-  pub second_era : seconds_of t < 2 ^ 31 → pos (seconds_of t) +ℤ pos 2085978496 ≡ unix_second (seconds_at t)
-  unfolding unix_second seconds_at
-  second_era h =
-      rw (lt-leb (2 ^ 31) (seconds_of t) h)
-      (omega (arith, integers, bounds, start_1970, minus (pos (start2036 + seconds_of t)) (pos start1970)))
-
--- ---- the window
+pub unix_second_is : (s : ℕ) → s < 2 ^ 63 → to_z w64 (of_z w64 (to_z w64 s -ℤ pos 62167219200)) ≡ unix_second s
+unfolding unix_second
+unix_second_is s h = rw start_1970 (omega (arith, ints))
 
 -- the second y after the start of the year 0 is in the window
 pub record Inside (y : ℤ) : Type 0 where
@@ -51,32 +38,48 @@ inside_has (negsuc n) e = absurd (true≢false (sym e))
 
 pub inside_yes : (y : ℤ) → Inside y → inside y ≡ true
 inside_yes (pos s) i = window_yes s i.from i.to
-inside_yes (negsuc n) i = absurd (omega (arith, integers, i.is))
+inside_yes (negsuc n) i = absurd (omega (arith, ints, i.is))
 
-module _ (z : ℤ) where
-  outside : (Inside (from_year0 z) → ⊥) → inside (from_year0 z) ≡ false
-  outside f = not_true_is_false (inside (from_year0 z)) λ t. f (inside_has (from_year0 z) t)
+-- the second that the code counts to
+abbrev pub second : ℤ → ℕ
+second z = (62167219200 + of_z w64 z) % 2 ^ 64
 
-  pub before_window : lt_z z (negsuc 61505151) ≡ true → inside (from_year0 z) ≡ false
-  before_window e = outside λ i. omega (arith, integers, bounds, start_1970, sum z (pos start1970), lt_taken z (negsuc 61505151) e)
+module _ (z : ℤ) (f : SFits w64 z) where
+  pub second_is : inside (from_year0 z) ≡ true → second z ≡ nat_abs (from_year0 z)
+  second_is e = go z f (inside_has (from_year0 z) e)
+    where
+      go : (y : ℤ) → SFits w64 y → Inside (from_year0 y) → second y ≡ nat_abs (from_year0 y)
+      go (pos n) g i = omega (arith, start_1970, g.sfits)
+      go (negsuc n) g i = omega (arith, ints, bounds, start_1970, g.sfits, i.is, i.to)
 
-  pub after_window : lt_z (pos 4233462143) z ≡ true → inside (from_year0 z) ≡ false
-  after_window e = outside λ i. omega (arith, integers, bounds, start_1970, sum z (pos start1970), lt_taken (pos 4233462143) z e)
+  -- and it is in the window exactly where the Unix second is
+  pub window_is : in_window (second z) ≡ inside (from_year0 z)
+  window_is = go (inside (from_year0 z)) refl
+    where
+      has : Inside (from_year0 z) → in_window (second z) ≡ true
+      has i = ap in_window (second_is (inside_yes (from_year0 z) i)) ∙ window_yes (nat_abs (from_year0 z)) i.from i.to
 
-  pub in_window : lt_z z (negsuc 61505151) ≡ false → lt_z (pos 4233462143) z ≡ false → inside (from_year0 z) ≡ true
-  in_window a b =
-      let s = sum z (pos start1970) in
-      let l = lt_left z (negsuc 61505151) a in
-      let h = lt_left (pos 4233462143) z b in
-      let y = size_is (from_year0 z) in
-      inside_yes (from_year0 z)
-      (record { is = omega (arith, integers, start_1970); from = omega (arith, integers, bounds, start_1970); to = omega (arith, integers, bounds, start_1970) })
+      back : (y : ℤ) → SFits w64 y → in_window (second y) ≡ true → Inside (from_year0 y)
+      back (pos n) g e = let w = window_has (second (pos n)) e in record { is = refl; from = omega (arith, start_1970, g.sfits, w); to = omega (arith, start_1970, g.sfits, w) }
+      back (negsuc n) g e = let w = window_has (second (negsuc n)) e in record { is = omega (arith, ints, bounds, start_1970, g.sfits, w); from = omega (arith, ints, bounds, start_1970, g.sfits, w); to = omega (arith, ints, bounds, start_1970, g.sfits, w) }
 
-  -- ---- the seconds of the timestamp that counts to it
+      go : (b : Bool) → inside (from_year0 z) ≡ b → in_window (second z) ≡ b
+      go true e = has (inside_has (from_year0 z) e)
+      go false e = false_from_ne_true (in_window (second z)) λ t. true≢false (sym (inside_yes (from_year0 z) (back z f t)) ∙ e)
 
-  module _ (i : Inside (from_year0 z)) where
-    pub since_1900 : z +ℤ pos 2208988800 ≡ pos (nat_abs (from_year0 z) - start1900)
-    since_1900 = omega (arith, integers, bounds, start_1970, sum z (pos start1970), sum z (pos 2208988800))
-
-    pub since_fits : SFits w64 (z +ℤ pos 2208988800)
-    since_fits = rw since_1900 (record { sfits = omega (arith, bounds) })
+  -- so it has the timestamp of the Unix second, or none as that has none
+  pub counts : (f : ℕ) → given (second_tests (second z) f) ≡ given (
+      OutsideWindow if not (inside (from_year0 z)) else
+      TimestampZero if is_zero (from_seconds (era_seconds (nat_abs (from_year0 z))) f) else
+      otherwise (from_seconds (era_seconds (nat_abs (from_year0 z))) f))
+  counts f = rw window_is (go (inside (from_year0 z)) refl)
+    where
+      go : (b : Bool) → inside (from_year0 z) ≡ b → given (
+          OutsideWindow if not b else
+          TimestampZero if is_zero (from_seconds (era_seconds (second z)) f) else
+          otherwise (from_seconds (era_seconds (second z)) f)) ≡ given (
+          OutsideWindow if not b else
+          TimestampZero if is_zero (from_seconds (era_seconds (nat_abs (from_year0 z))) f) else
+          otherwise (from_seconds (era_seconds (nat_abs (from_year0 z))) f))
+      go true e = rw (second_is e) refl
+      go false e = refl

@@ -1,14 +1,13 @@
 -- Unix times of timestamps, and timestamps of Unix times (docs/RULES.md, "Unix time").
-use Rattle.std.specs.Prelude.{ℕ, ◌+◌, ◌-◌, ◌*◌, ◌/◌, ◌^◌, Bool, false, not, leb, ℤ, pos, negsuc, ◌+ℤ◌, ◌-ℤ◌, nat_abs}
-use Rattle.refusals.specs.Numbers.{timestamp_zero, no_such_date, outside_window}
-use Rattle.ordered_tests.specs.Tests.{Tests, ◌if◌else◌, otherwise, answer}
+use Rattle.std.specs.Prelude.{ℕ, ◌+◌, ◌-◌, ◌*◌, ◌/◌, ◌^◌, Bool, false, not, leb, ℤ, pos, negsuc, ◌+ℤ◌, ◌-ℤ◌, nat_abs, Result}
+use Rattle.refusals.specs.declared.Refusal.{Refusal}
+use Rattle.refusals.specs.declared.Refusal.TheVariants.{TimestampZero, NoSuchDate, OutsideWindow}
+use Rattle.ordered_tests.specs.Tests.{Tests, ◌if◌else◌, otherwise, given}
 use Rattle.timestamp.specs.declared.Timestamp.{Timestamp}
 use Rattle.timestamp.specs.Timestamp.{from_seconds, fraction_of, is_zero}
 use Rattle.calendar.specs.Dates.{date, seconds_to}
 use Rattle.calendar.specs.Calendar.{seconds_at, in_window, era_seconds}
-use Rattle.calendar.specs.declared.TimestampAnswer.{TimestampAnswer}
 use Rattle.unix_time.specs.declared.UnixTime.{UnixTime}
-use Rattle.unix_time.specs.declared.UnixTimeAnswer.{UnixTimeAnswer}
 
 -- the seconds from the start of the year 0 to 1970
 unfoldable pub start1970 : ℕ
@@ -27,13 +26,13 @@ abbrev pub unix_time_at : Timestamp → UnixTime
 unix_time_at t = record { seconds = unix_second (seconds_at t); nanoseconds = nanoseconds_of (fraction_of t) }
 
 -- The Unix time of a timestamp.
-abbrev pub unix_time_tests : Timestamp → Tests UnixTimeAnswer
+abbrev pub unix_time_tests : Timestamp → Tests UnixTime
 unix_time_tests t =
-    timestamp_zero if is_zero t else
-    otherwise (UnixTimeAnswer.UnixTime (unix_time_at t))
+    TimestampZero if is_zero t else
+    otherwise (unix_time_at t)
 
-unfoldable pub unix_time_of : Timestamp → UnixTimeAnswer
-unix_time_of t = answer UnixTimeAnswer.Refused (unix_time_tests t)
+unfoldable pub unix_time_of : Timestamp → Result UnixTime Refusal
+unix_time_of t = given (unix_time_tests t)
 
 -- the second of a Unix time, counted from the start of the year 0
 abbrev pub from_year0 : ℤ → ℤ
@@ -53,12 +52,12 @@ abbrev pub timestamp_at : UnixTime → Timestamp
 timestamp_at u = from_seconds (era_seconds (nat_abs (from_year0 u.seconds))) (fraction_above u.nanoseconds)
 
 -- The timestamp of a Unix time.
-abbrev pub timestamp_tests : UnixTime → Tests TimestampAnswer
+abbrev pub timestamp_tests : UnixTime → Tests Timestamp
 timestamp_tests u =
-    no_such_date if leb (10 ^ 9) u.nanoseconds else
-    outside_window if not (inside (from_year0 u.seconds)) else
-    timestamp_zero if is_zero (timestamp_at u) else
-    otherwise (TimestampAnswer.Timestamp (timestamp_at u))
+    NoSuchDate if leb (10 ^ 9) u.nanoseconds else
+    OutsideWindow if not (inside (from_year0 u.seconds)) else
+    TimestampZero if is_zero (timestamp_at u) else
+    otherwise (timestamp_at u)
 
-unfoldable pub timestamp_of : UnixTime → TimestampAnswer
-timestamp_of u = answer TimestampAnswer.Refused (timestamp_tests u)
+unfoldable pub timestamp_of : UnixTime → Result Timestamp Refusal
+timestamp_of u = given (timestamp_tests u)

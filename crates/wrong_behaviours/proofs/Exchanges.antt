@@ -17,7 +17,7 @@ use Rattle.timestamp.specs.declared.Timestamp.{Timestamp}
 use Rattle.offset.specs.Halving.{twice}
 use Rattle.client.specs.declared.Client.{Client}
 use Rattle.client.specs.Record.{is_waiting}
-use Rattle.client.specs.Calls.{Call, arrival, Result, refused, done, accepted, kiss, Outcome}
+use Rattle.client.specs.Calls.{Call, arrival, Told, refused, done, accepted, kiss, Outcome}
 use Rattle.demands.specs.Form.{refusal}
 use Rattle.demands.specs.Measure.{d}
 use Rattle.demands.specs.Reply.{Request}
@@ -29,7 +29,7 @@ use Rattle.demands.proofs.Witnesses.{premises}
 
 -- sent at 5000 and arrived at 5009 by the client's clock
 abbrev nine : ℕ → ℕ → ℤ → Exchange
-nine received answered server = record { sent = pos 5000; received = pos received; answered = pos answered; arrived = pos 5009; client = pos 0; server = server }
+nine received replied server = record { sent = pos 5000; received = pos received; answered = pos replied; arrived = pos 5009; client = pos 0; server = server }
 
 -- the server 1000 units behind, no time on the way out, 2 at the server, 7 on the way back: P + Q is -1000 - 1007, and the bound is met to the unit
 abbrev pub slow_back : Exchange
@@ -76,7 +76,7 @@ module _ (e : Exchange) where
 -- ---- what is seen of an arrival
 
 -- it is accepted with these values
-abbrev values : ℤ → ℕ → ℤ → Result → Bool
+abbrev values : ℤ → ℕ → ℤ → Told → Bool
 values o h δ (refused n) = false
 values o h δ done = false
 values o h δ (accepted o' h' δ') = le_z o o' && le_z o' o && eqb h h' && le_z δ δ' && le_z δ' δ
@@ -96,7 +96,7 @@ module _ (e : Exchange) where
   near o h δ = le_z (pos (nat_abs (twice o +ℤ pos h -ℤ twice (true_difference e)))) δ
 
   -- accepted in the bound, with a delay that is not above d and a half of 0 or 1
-  abbrev pub in_bound : Result → Bool
+  abbrev pub in_bound : Told → Bool
   in_bound (refused n) = false
   in_bound done = false
   in_bound (accepted o h δ) = near o h δ && (le_z δ delay && leb h 1)

@@ -1,7 +1,7 @@
 -- Each wrong program for the calls for C fails a demand.
 use Prim.Native.Nat.{ℕ}
 use mathlib.Core.Path.{refl, subst}
-use mathlib.Core.List.{List, [], ◌∷◌, ◌++◌}
+use mathlib.Core.List.{List, [], ◌∷◌}
 use lib.Dec.{T, eqb}
 use lib.IntN.{pos}
 use lib.ListN.{get_or, replicate}
@@ -14,7 +14,6 @@ use Rattle.client.specs.Record.{illegal}
 use Rattle.client.specs.Ask.{ask_tests, after_ask}
 use Rattle.client.specs.Arrival.{arrived, arrival_answer}
 use Rattle.client.specs.GiveUp.{give_up_tests, gave_up}
-use Rattle.reply_checks.specs.Checks.{waiting_tests}
 use Rattle.server_packet.specs.Packet.{out_of_range}
 use Rattle.server.specs.Server as server
 use Rattle.firmware_layouts.specs.Image.{image_of, record_in, has_legal_values, is_image}
@@ -22,7 +21,7 @@ use Rattle.firmware_layouts.specs.Answer.{answer_in}
 use Rattle.firmware.specs.Client as firmware
 use Rattle.firmware.specs.Client.{LentCall, ask, arrival, give_up}
 use Rattle.demands.specs.ForC.{ImageCall, ImageOutcome}
-use Rattle.demands.specs.Behaviour.{fresh_for_c, client_for_c, reply_for_c, form}
+use Rattle.demands.specs.Behaviour.{fresh_for_c, client_for_c, reply_for_c}
 use Rattle.demands.proofs.Form.{differs}
 use Rattle.demands.proofs.Each.{each}
 use Rattle.wrong_behaviours.specs.Refuted.{Fails1, Fails2}

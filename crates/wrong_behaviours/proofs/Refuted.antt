@@ -1,4 +1,7 @@
 -- Each wrong program fails a demand.
+use Rattle.refusals.specs.Given as given
+use Rattle.refusals.specs.Given.{Given}
+use Rattle.packet.specs.declared.Fields.{Fields}
 use Prim.Native.Nat.{ℕ, ◌^◌, ◌+◌}
 use mathlib.Core.Path.{refl, sym, ap, subst, ◌∙◌}
 use mathlib.Core.Logic.{◌≢◌}
@@ -10,24 +13,25 @@ use lib.ListN.{get_or, replicate}
 use lib.IntN.{ℤ, pos, negsuc, nat_abs, ◌+ℤ◌, ◌-ℤ◌}
 use lib.Signed.{le_z, le_z_yes, ◌≤ℤ◌}
 use mir.Facts.{and_yes}
+use Rattle.refusals.specs.Numbers as numbers
+use Rattle.refusals.specs.declared.Refusal.TheVariants.{DelayNegative, LineMalformed}
 use Rattle.arithmetic.specs.Modulo.{◌modulo◌}
 use Rattle.arithmetic.specs.TwosComplement.{signed, bits, difference}
 use Rattle.arithmetic.specs.Octets.{octets}
 use Rattle.arithmetic.proofs.Integers.{integers, size, minus}
-use Rattle.refusals.specs.Numbers.{delay_negative, line_malformed}
+use Rattle.refusals.specs.declared.Refusal.TheVariants.{DelayNegative, LineMalformed}
 use Rattle.timestamp.specs.declared.Timestamp.{Timestamp}
 use Rattle.timestamp.specs.Timestamp.{timestamp, from_seconds, ◌since◌, has_no_order}
 use Rattle.offset.specs.Offset.{floor_half, half_of, offset_tests, measured}
 use Rattle.offset.specs.Halving.{twice}
 use Rattle.extension.specs.Reading as tails
-use Rattle.packet.specs.declared.FieldsAnswer.{FieldsAnswer}
 use Rattle.packet.specs.Packet.{fields_of, octets_of}
 use Rattle.calendar.specs.Gregorian.{leap_days, year_days, month_days, before, last}
 use Rattle.calendar.specs.Dates as dates
 use Rattle.calendar.specs.Dates.{date, days_to, seconds_to, date_at, year_on, day_of_year, month_on, day_of_month}
 use Rattle.unix_time.specs.UnixTime as unix
 use Rattle.calendar.specs.Calendar.{date_of, seconds_at, start1900, start2036, window_start, window_end, in_window, era_seconds, timestamp_of}
-use Rattle.precision.specs.Precision.{least, precision_of}
+use Rattle.precision.specs.Precision.{least}
 use Rattle.poll.specs.Poll.{too_soon}
 use Rattle.client.specs.declared.Client.{Client}
 use Rattle.client.specs.declared.Phase.TheVariants.{Waiting, Stopped}
@@ -38,12 +42,11 @@ use Rattle.client.specs.Arrival.{arrived}
 use Rattle.client.specs.Arrival as arrivals
 use Rattle.reply_checks.specs.Checks.{waiting_tests, check_tests}
 use Rattle.client.specs.GiveUp.{gave_up, give_up_tests}
-use Rattle.client.specs.Calls.{Call, ask, arrival, give_up, Result, refused, done, accepted, kiss, Outcome}
+use Rattle.client.specs.Calls.{Call, ask, arrival, give_up, Told, refused, done, accepted, kiss, Outcome}
 use Rattle.association_rules.specs.Associations.{any_illegal, first_running, arrived_for, list_after_arrival}
 use Rattle.association_rules.specs.InUse.{outside}
 use Rattle.kiss.specs.Kiss.{row_of}
 use Rattle.broadcast.specs.Broadcast.{broadcast_arrived, field_tests}
-use Rattle.server.specs.declared.ReplyAnswer.{ReplyAnswer}
 use Rattle.server_packet.specs.Packet as server-packet
 use Rattle.server.specs.Server.{request_tests}
 use Rattle.server.specs.Server as server
@@ -72,14 +75,14 @@ use Rattle.ordered_tests.proofs.Reflection.{contradiction}
 use Rattle.demands.proofs.Form.{acceptance_shown, differs, unique}
 use Rattle.demands.proofs.Each.{each}
 use Rattle.demands.proofs.Demand3.{follows}
-use Rattle.wrong_behaviours.specs.Client.{refusing, always_writing, any_version, sending_clock, taking_none, staying_waiting, spending, always_stopping, never_stopping, any_tail, without_fields, kiss_first, any_originate, unsigned_times, root_untested, negative_delay_untested, dispersion_signed, root_swapped, root_after15, fixing, measuring, zero_offset, huge_delay, half_lost, large_half, toward_zero, halved_apart}
+use Rattle.wrong_behaviours.specs.Client.{refusing, always_writing, taking_none, staying_waiting, spending, any_tail, without_fields, kiss_first, unsigned_times, root_untested, negative_delay_untested, dispersion_signed, root_swapped, root_after15, fixing, measuring, zero_offset, huge_delay, half_lost, large_half, toward_zero, halved_apart}
 use Rattle.wrong_behaviours.proofs.ForC.{fresh_of_images_fails, fresh_writes_nothing, clears_answer, starts_over, tests_late, cuts_version, cuts_leap}
-use Rattle.wrong_behaviours.specs.Others.{preferring_first, forgetting_use, answering_zero, never_replying, wrong_originate, measuring_half_circle, reversing_half_circle, telling_half_circle, fourth_year_dates, fourth_year_timestamps, nearest_nanosecond, since1900, fraction_down, window_first, rounded_down, taking_entries, paying_all, refusing_lines, dropping_digits, starting_afresh}
+use Rattle.wrong_behaviours.specs.Others.{never_replying, wrong_originate, fourth_year_dates, fourth_year_timestamps, nearest_nanosecond, since1900, fraction_down, window_first, rounded_down, taking_entries, paying_all, refusing_lines, dropping_digits, starting_afresh}
 use Rattle.wrong_behaviours.specs.Refuted.{with_client, with_server, Fails1, Fails2, Fails3, Refuted}
 use Rattle.wrong_behaviours.proofs.Exchanges.{slow_back, slow_out, both_odd, other_server, waiting, request, replied, with_root, with_tail, with_kiss, tells_other, near, in_bound, concluded, in_bound_lem}
 
 -- no result is in the bound of two servers that are 2000 units apart
-not_both : (r : Result) → T (in_bound slow_back r) → T (in_bound other_server r) → ⊥
+not_both : (r : Told) → T (in_bound slow_back r) → T (in_bound other_server r) → ⊥
 unfolding reading ◌modulo◌ ◌since◌ difference signed
 not_both (refused n) s t = s
 not_both done s t = s
@@ -108,7 +111,7 @@ february_2100 = differs (each behaviour.timestamp).answers (date 2100 2 29 0 0 0
 
 -- a tick of 3 units, of which the smallest power of two not below is 4
 rounded_down_fails : Fails2 behaviour.precision rounded_down
-unfolding precision_of least
+unfolding least
 rounded_down_fails = differs (each behaviour.precision).answers 3 (λ o. le_z (get_or ((form behaviour.precision).shown o).values 0 (pos 0)) (negsuc 30)) tt tt
 
 -- ---- Unix time
@@ -138,7 +141,7 @@ abbrev give_up_line : ℕ → List ℕ
 give_up_line zeros = 65 ∷ 51 ∷ replicate zeros 48
 
 abbrev malformed : LineAnswer → Bool
-malformed r = eqb (get_or r.octets 0 0) line_malformed
+malformed r = eqb (get_or r.octets 0 0) (numbers.number LineMalformed)
 
 refuses_every_line : Fails2 behaviour.line refusing_lines
 unfolding digit_of call_of gave_up give_up_tests illegal
@@ -167,13 +170,13 @@ unfolding tick_tests is_debt_too_large payment
 pays_all = differs (each behaviour.tick).answers (record { ledger = owing (pos 2); limit = 1 }) (λ o. le_z o.ledger.debt (pos 0)) tt tt
 
 -- what is seen of an answer
-abbrev is_written : ReplyAnswer → Bool
-is_written (ReplyAnswer.Refused n) = false
-is_written ReplyAnswer.Written = true
+abbrev is_written : Given (Unit {0}) → Bool
+is_written (given.refused n) = false
+is_written (given.answered u) = true
 
-abbrev has_mode : ℕ → FieldsAnswer → Bool
-has_mode m (FieldsAnswer.Refused n) = false
-has_mode m (FieldsAnswer.Fields f) = eqb f.mode m
+abbrev has_mode : ℕ → Given Fields → Bool
+has_mode m (given.refused n) = false
+has_mode m (given.answered f) = eqb f.mode m
 
 abbrev number : Outcome → ℕ
 number o = ((clients.client).shown o).number
@@ -242,7 +245,7 @@ refuted =
       );
       fresh_with_uptime = λ demand. let e = ap (λ (c : Client). c.uptime) demand.fresh_record in omega arith;
       takes_no_reply = λ number. (back (taking_none number) tt, in_bound_at (taking_none number) slow_back at_back accepted_ask tt);
-      refuses_by_18 = λ met. let by_18 = taking_none (λ c x. delay_negative) in in_bound_at by_18 slow_back at_back accepted_ask tt (follows (with_client by_18) met);
+      refuses_by_18 = λ met. let by_18 = taking_none (λ c x. (numbers.number DelayNegative)) in in_bound_at by_18 slow_back at_back accepted_ask tt (follows (with_client by_18) met);
       stays_waiting = back staying_waiting tt;
       offset_zero = (back (measuring zero_offset) tt, in_bound_at (measuring zero_offset) slow_back at_back accepted_ask tt);
       huge_delay_fails = (back (measuring huge_delay) tt, in_bound_at (measuring huge_delay) slow_back at_back accepted_ask tt);

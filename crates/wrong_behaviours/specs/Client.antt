@@ -1,9 +1,10 @@
 -- Wrong clients (docs/RULES.md, "Slips that look reasonable" and "How much each public function must say"). Each does what ours does but for one thing.
+use Rattle.reply_checks.specs.declared.ArrivalAnswer.{ArrivalAnswer}
 use Rattle.std.specs.Prelude.{ℕ, min, ◌+◌, ◌^◌, Bool, true, false, cond, not, List, [], ◌++◌, eqb, ltb, ℤ, pos, ◌+ℤ◌, ◌-ℤ◌, length, take, drop}
 use Rattle.std.specs.Int.Signed.{quot_z, le_z}
 use Rattle.arithmetic.specs.TwosComplement.{signed}
-use Rattle.refusals.specs.Numbers.{record_not_legal, packet_length_wrong, not_waiting, arrived_before_sent, root_delay_out_of_range, root_dispersion_too_large}
-use Rattle.ordered_tests.specs.Tests.{Tests, ◌if◌else◌, ◌when◌else◌, answer, kept, carry}
+use Rattle.refusals.specs.declared.Refusal.TheVariants.{RecordNotLegal, PacketLengthWrong, NotWaiting, ArrivedBeforeSent, RootDelayOutOfRange, RootDispersionTooLarge}
+use Rattle.ordered_tests.specs.Tests.{Tests, ◌if◌else◌, ◌when◌else◌, given, kept, carry}
 use Rattle.timestamp.specs.declared.Timestamp.{Timestamp}
 use Rattle.timestamp.specs.Timestamp.{timestamp, ◌since◌, negative}
 use Rattle.token.specs.Token.{token}
@@ -14,13 +15,12 @@ use Rattle.packet.specs.Packet.{fields_of}
 use Rattle.sanity.specs.Sanity.{header_tests, is_root_delay_out_of_range, is_root_dispersion_too_large, root_tests}
 use Rattle.client.specs.declared.Client.{Client}
 use Rattle.client.specs.declared.Phase.TheVariants.{Idle}
-use Rattle.reply_checks.specs.declared.ArrivalAnswer.{ArrivalAnswer}
-use Rattle.reply_checks.specs.Checks.{match_tests, check_tests, from_offset}
+use Rattle.reply_checks.specs.Checks.{match_tests, check_tests}
 use Rattle.kiss.specs.Kiss.{row_of}
 use Rattle.client.specs.Record.{is_waiting, illegal, without_request}
 use Rattle.request.specs.Request.{request}
 use Rattle.client.specs.Arrival.{arrival_tests, after}
-use Rattle.client.specs.Calls.{Arrival, Call, ask, arrival, give_up, lent, Result, refused, done, accepted, kiss, Outcome, said_arrival, step}
+use Rattle.client.specs.Calls.{Arrival, Call, ask, arrival, give_up, lent, Told, refused, done, accepted, kiss, Outcome, said_arrival, step}
 use Rattle.demands.specs.Form.{Implementation}
 use Rattle.demands.specs.Client.{client}
 use Rattle.demands.specs.Arrival.{four}
@@ -101,7 +101,7 @@ never_stopping = supposing false
 
 abbrev testing : (Client → Arrival → Tests ArrivalAnswer) → Implementation client
 testing tests = arriving (λ c x.
-    let a = answer ArrivalAnswer.Refused (tests c x) in
+    let a = given (tests c x) in
     record { result = said_arrival a; next = after c x.alternate a; octets = x.packet })
 
 abbrev kissed : Fields → ArrivalAnswer
@@ -114,15 +114,15 @@ any_tail = testing (λ c x. arrival_tests c (take 48 x.packet) x.t4)
 -- it takes a packet without extension fields alone
 abbrev pub without_fields : Implementation client
 without_fields = testing (λ c x.
-    packet_length_wrong if ltb 68 (length x.packet) else
+    PacketLengthWrong if ltb 68 (length x.packet) else
     arrival_tests c x.packet x.t4)
 
 -- it obeys a kiss before the originate test
 abbrev pub kiss_first : Implementation client
 kiss_first = testing (λ c x.
-    record_not_legal if illegal c else
-    packet_length_wrong if is_malformed x.packet else
-    not_waiting if not (is_waiting c.phase) else
+    RecordNotLegal if illegal c else
+    PacketLengthWrong if is_malformed x.packet else
+    NotWaiting if not (is_waiting c.phase) else
     kissed (fields_of x.packet) when eqb (fields_of x.packet).stratum 0 else
     arrival_tests c x.packet x.t4)
 
@@ -130,18 +130,18 @@ kiss_first = testing (λ c x.
 abbrev pub any_originate : Implementation client
 any_originate = testing (λ c x.
     let f = fields_of x.packet in
-    record_not_legal if illegal c else
-    packet_length_wrong if is_malformed x.packet else
-    not_waiting if not (is_waiting c.phase) else
+    RecordNotLegal if illegal c else
+    PacketLengthWrong if is_malformed x.packet else
+    NotWaiting if not (is_waiting c.phase) else
     check_tests c.t1 (token f.originate.0) c.version f x.t4)
 
 -- it makes other tests of the root fields and the four timestamps of a reply
 abbrev checking : (Client → Fields → Timestamp → Tests ArrivalAnswer) → Implementation client
 checking rest = testing (λ c x.
     let f = fields_of x.packet in
-    record_not_legal if illegal c else
-    packet_length_wrong if is_malformed x.packet else
-    not_waiting if not (is_waiting c.phase) else
+    RecordNotLegal if illegal c else
+    PacketLengthWrong if is_malformed x.packet else
+    NotWaiting if not (is_waiting c.phase) else
     match_tests c.token c.version f (
     kissed f when eqb f.stratum 0 else
     header_tests f x.t4 (rest c f x.t4)))
@@ -149,7 +149,7 @@ checking rest = testing (λ c x.
 -- the tests of the four timestamps, their differences taken so
 abbrev timed : (Timestamp → Timestamp → ℤ) → Client → Fields → Timestamp → Tests ArrivalAnswer
 timed less c f t4 =
-    carry from_offset (offset_tests (less t4 c.t1) (less f.transmit f.receive) (less f.receive c.t1) (less f.transmit t4))
+    carry ArrivalAnswer.Accepted (offset_tests (less t4 c.t1) (less f.transmit f.receive) (less f.receive c.t1) (less f.transmit t4))
 
 -- it compares timestamps as plain unsigned numbers
 abbrev pub unsigned_times : Implementation client
@@ -162,39 +162,39 @@ root_untested = checking (timed ◌since◌)
 -- it makes no test for a negative root delay
 abbrev pub negative_delay_untested : Implementation client
 negative_delay_untested = checking (λ c f t4.
-    root_delay_out_of_range if le_z (pos 65536) f.root_delay else
-    root_dispersion_too_large if is_root_dispersion_too_large f.root_dispersion else
+    RootDelayOutOfRange if le_z (pos 65536) f.root_delay else
+    RootDispersionTooLarge if is_root_dispersion_too_large f.root_dispersion else
     timed ◌since◌ c f t4)
 
 -- it reads root dispersion as a signed number
 abbrev pub dispersion_signed : Implementation client
 dispersion_signed = checking (λ c f t4.
-    root_delay_out_of_range if is_root_delay_out_of_range f.root_delay else
-    root_dispersion_too_large if le_z (pos 65536) (signed 32 f.root_dispersion) else
+    RootDelayOutOfRange if is_root_delay_out_of_range f.root_delay else
+    RootDispersionTooLarge if le_z (pos 65536) (signed 32 f.root_dispersion) else
     timed ◌since◌ c f t4)
 
 -- it tests root dispersion before root delay
 abbrev pub root_swapped : Implementation client
 root_swapped = checking (λ c f t4.
-    root_dispersion_too_large if is_root_dispersion_too_large f.root_dispersion else
-    root_delay_out_of_range if is_root_delay_out_of_range f.root_delay else
+    RootDispersionTooLarge if is_root_dispersion_too_large f.root_dispersion else
+    RootDelayOutOfRange if is_root_delay_out_of_range f.root_delay else
     timed ◌since◌ c f t4)
 
 -- it tests the root fields after T4 - T1
 abbrev pub root_after15 : Implementation client
 root_after15 = checking (λ c f t4.
-    arrived_before_sent if negative (t4 since c.t1) else
+    ArrivedBeforeSent if negative (t4 since c.t1) else
     root_tests f (timed ◌since◌ c f t4))
 
 -- ---- at a reply that ours accepts: it tells something else
 
-abbrev instead : Result → Result → Result
+abbrev instead : Told → Told → Told
 instead new (refused n) = refused n
 instead new done = done
 instead new (accepted offset half delay) = new
 instead new (kiss code row) = kiss code row
 
-abbrev reporting : (Client → Arrival → Result) → Implementation client
+abbrev reporting : (Client → Arrival → Told) → Implementation client
 reporting report = arriving (λ c x. record {
   result = instead (report c x) (step c (arrival x)).result;
   next = (step c (arrival x)).next;
@@ -202,33 +202,33 @@ reporting report = arriving (λ c x. record {
 })
 
 -- it fixes what it tells when asking, whatever that is, and looks at the delay alone
-abbrev pub fixing : (Client → Timestamp → ℤ → Result) → Implementation client
+abbrev pub fixing : (Client → Timestamp → ℤ → Told) → Implementation client
 fixing guess = reporting (λ c x. guess c x.t4 (d (four c x)))
 
 -- it makes something else of the four timestamps
-abbrev pub measuring : (Four → Result) → Implementation client
+abbrev pub measuring : (Four → Told) → Implementation client
 measuring made = reporting (λ c x. made (four c x))
 
 -- offset 0 always
-abbrev pub zero_offset : Four → Result
+abbrev pub zero_offset : Four → Told
 zero_offset x = accepted (pos 0) 0 (d x)
 
 -- a huge delay, so that the bound is easy
-abbrev pub huge_delay : Four → Result
+abbrev pub huge_delay : Four → Told
 huge_delay x = accepted (offset x) (half x) (pos (2 ^ 40))
 
 -- the half lost
-abbrev pub half_lost : Four → Result
+abbrev pub half_lost : Four → Told
 half_lost x = accepted (offset x) 0 (d x)
 
 -- 10 half units moved from the offset to the half, so that the bound is met
-abbrev pub large_half : Four → Result
+abbrev pub large_half : Four → Told
 large_half x = accepted (offset x -ℤ pos 5) (half x + 10) (d x)
 
 -- halved toward zero
-abbrev pub toward_zero : Four → Result
+abbrev pub toward_zero : Four → Told
 toward_zero x = accepted (quot_z (P x +ℤ Q x) (pos 2)) (half x) (d x)
 
 -- P and Q halved apart
-abbrev pub halved_apart : Four → Result
+abbrev pub halved_apart : Four → Told
 halved_apart x = accepted (floor_half (P x) +ℤ floor_half (Q x)) (half x) (d x)

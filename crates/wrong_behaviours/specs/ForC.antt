@@ -1,18 +1,18 @@
 -- Wrong programs for the calls for C. Each does what ours does but for one thing.
-use Rattle.std.specs.Prelude.{ℕ, ◌%◌, cond, eqb, length, replicate}
-use Rattle.refusals.specs.Numbers.{image_not_legal}
+use Rattle.std.specs.Prelude.{◌%◌, cond, eqb, length, replicate}
+use Rattle.refusals.specs.Numbers.{number}
+use Rattle.refusals.specs.declared.Refusal.TheVariants.{ImageNotLegal}
 use Rattle.client.specs.Record.{fresh}
-use Rattle.client.specs.Calls as calls
 use Rattle.firmware_layouts.specs.Image.{is_image, with_image}
 use Rattle.firmware.specs.Numbers.{number_of}
-use Rattle.firmware.specs.Client.{LentCall, ask, arrival, give_up, admitted, outcome}
+use Rattle.firmware.specs.Client.{LentCall, ask, arrival, give_up, outcome}
 use Rattle.demands.specs.Form.{Implementation}
 use Rattle.demands.specs.ForC as for-c
 use Rattle.demands.specs.ForC.{fresh_for_c, ImageCall, ImageOutcome, client_for_c, RequestForC, reply_for_c}
 
 -- fresh looks at the octets too, and refuses what is no image
 abbrev pub fresh_of_images : Implementation fresh_for_c
-fresh_of_images image = cond (is_image image) (for-c.ours_fresh image) (fresh_for_c.refusing image image_not_legal)
+fresh_of_images image = cond (is_image image) (for-c.ours_fresh image) (fresh_for_c.refusing image (number ImageNotLegal))
 
 -- fresh leaves the slice as it was
 abbrev pub fresh_writing_nothing : Implementation fresh_for_c

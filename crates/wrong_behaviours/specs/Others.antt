@@ -1,37 +1,33 @@
 -- Wrong programs for the other calls. Each does what ours does but for one thing.
+use Rattle.std.specs.Prelude.{Option, Some, None}
+use Rattle.std.specs.Prelude.{ℤ}
+use Rattle.refusals.specs.Given.{Given, refused, answered, numbered}
+use Rattle.refusals.specs.Numbers.{number}
+use Rattle.ordered_tests.specs.Tests.{Tests, given}
 use Rattle.std.specs.Prelude.{ℕ, suc, ◌+◌, ◌-◌, ◌*◌, ◌/◌, ◌%◌, ◌^◌, Bool, cond, not, ◌&&◌, ◌||◌, List, [], ◌∷◌, ◌++◌, eqb, leb, ltb, pos, neg_ℤ, nat_abs, ◌+ℤ◌, ◌-ℤ◌, length, take, drop, replicate}
 use Rattle.std.specs.Int.Signed.{lt_z}
 use Rattle.arithmetic.specs.Octets.{part, big_endian}
-use Rattle.refusals.specs.Numbers.{packet_length_wrong, arrived_before_sent, arrived_too_late, answered_before_received, delay_negative, first_below_second, no_order, timestamp_zero, no_such_date, outside_window, tick_out_of_range, time_length_wrong, line_malformed}
-use Rattle.ordered_tests.specs.Tests.{◌if◌else◌, otherwise, answer}
+use Rattle.refusals.specs.Numbers as numbers
+use Rattle.refusals.specs.declared.Refusal.TheVariants.{PacketLengthWrong, ArrivedBeforeSent, ArrivedTooLate, AnsweredBeforeReceived, DelayNegative, FirstBelowSecond, NoOrder, TimestampZero, NoSuchDate, OutsideWindow, TickOutOfRange, TimeLengthWrong, LineMalformed}
+use Rattle.ordered_tests.specs.Tests.{◌if◌else◌, otherwise}
 use Rattle.timestamp.specs.declared.Timestamp.{Timestamp}
 use Rattle.timestamp.specs.Timestamp.{constants, from_seconds, fraction_of, is_zero, ◌since◌, negative}
-use Rattle.offset.specs.declared.OffsetAnswer.{OffsetAnswer}
 use Rattle.extension.specs.Reading.{is_malformed}
-use Rattle.packet.specs.declared.FieldsAnswer.{FieldsAnswer}
 use Rattle.packet.specs.Packet.{fields_of, octets_of}
 use Rattle.calendar.specs.declared.Date.{Date}
-use Rattle.calendar.specs.declared.DateAnswer.{DateAnswer}
-use Rattle.calendar.specs.declared.TimestampAnswer.{TimestampAnswer}
 use Rattle.calendar.specs.Gregorian.{divides}
 use Rattle.calendar.specs.Dates as calendar
 use Rattle.calendar.specs.Dates.{exists, seconds_to, date_at}
 use Rattle.calendar.specs.Calendar.{start1900, seconds_at, in_window, era_seconds}
 use Rattle.unix_time.specs.declared.UnixTime.{UnixTime}
-use Rattle.unix_time.specs.declared.UnixTimeAnswer.{UnixTimeAnswer}
 use Rattle.unix_time.specs.UnixTime.{unix_second, nanoseconds_of, from_year0, inside, timestamp_at}
-use Rattle.time_protocol.specs.declared.CountAnswer.{CountAnswer}
-use Rattle.precision.specs.declared.PrecisionAnswer.{PrecisionAnswer}
 use Rattle.precision.specs.Precision.{least}
 use Rattle.client.specs.declared.Client.{Client}
 use Rattle.client.specs.Record.{fresh}
-use Rattle.server.specs.declared.ReplyAnswer.{ReplyAnswer}
 use Rattle.server.specs.Server.{reply_fields}
-use Rattle.broadcast.specs.declared.BroadcastAnswer.{BroadcastAnswer}
-use Rattle.ledger.specs.declared.EntryAnswer.{EntryAnswer}
-use Rattle.ledger.specs.declared.TickAnswer.{TickAnswer}
 use Rattle.hex_decode.specs.Decoding.{decode}
-use Rattle.frames.specs.Frames.{Parsed, call, malformed, parsed}
+use Rattle.client.specs.Calls.{Call}
+use Rattle.frames.specs.Frames.{parsed}
 use Rattle.demands.specs.Form.{Implementation}
 use Rattle.demands.specs.Associations as lists
 use Rattle.demands.specs.Associations.{ListInput, ListOutcome, associations}
@@ -55,6 +51,10 @@ use Rattle.demands.specs.Tick.{tick}
 use Rattle.demands.specs.Line as lines
 use Rattle.demands.specs.Line.{line}
 
+-- what a table of tests gives, a refusal by its number
+abbrev gives : {A : Type 0} → Tests A → Given A
+gives tests = numbered (given tests)
+
 -- ---- the list: what is in use after a call
 
 abbrev in_use_by : (ListInput → ListOutcome → ℕ) → Implementation associations
@@ -77,7 +77,7 @@ forgetting_use = in_use_by (λ i o. i.at)
 
 -- it refuses everything, by whatever numbers
 abbrev pub never_replying : (Request → ℕ) → Implementation reply
-never_replying number x = record { answer = ReplyAnswer.Refused (number x); octets = x.buffer }
+never_replying number x = record { answer = refused (number x); octets = x.buffer }
 
 -- its reply carries the request's originate timestamp in place of its transmit timestamp
 abbrev pub wrong_originate : Implementation reply
@@ -92,9 +92,9 @@ replying_anyway x = record {
 
 -- ---- the client of a broadcast: it answers 0 where ours answers a difference
 
-abbrev zeroed : BroadcastAnswer → BroadcastAnswer
-zeroed (BroadcastAnswer.Refused n) = BroadcastAnswer.Refused n
-zeroed (BroadcastAnswer.Difference d) = BroadcastAnswer.Difference (pos 0)
+abbrev zeroed : Given ℤ → Given ℤ
+zeroed (refused n) = refused n
+zeroed (answered d) = answered (pos 0)
 
 abbrev pub answering_zero : Implementation broadcast_arrival
 answering_zero x = zeroed (broadcasts.ours_arrival x)
@@ -102,24 +102,24 @@ answering_zero x = zeroed (broadcasts.ours_arrival x)
 -- ---- half a circle apart taken for the lowest difference, -2^63, where ours says that there is no order
 
 abbrev pub measuring_half_circle : Implementation measure
-measuring_half_circle x = answer OffsetAnswer.Refused (
-    arrived_before_sent if negative (x.t4 since x.t1) else
-    arrived_too_late if lt_z constants.limit (x.t4 since x.t1) else
-    answered_before_received if negative (x.t3 since x.t2) else
-    delay_negative if negative (d x) else
-    first_below_second if lt_z (P x) (Q x) else
-    otherwise (OffsetAnswer.Measured (offset x) (half x) (d x)))
+measuring_half_circle x = gives (
+    ArrivedBeforeSent if negative (x.t4 since x.t1) else
+    ArrivedTooLate if lt_z constants.limit (x.t4 since x.t1) else
+    AnsweredBeforeReceived if negative (x.t3 since x.t2) else
+    DelayNegative if negative (d x) else
+    FirstBelowSecond if lt_z (P x) (Q x) else
+    otherwise (record { offset = offset x; half = half x; delay = d x }))
 
-abbrev reversed : ReplyAnswer → ReplyAnswer
-reversed (ReplyAnswer.Refused n) = ReplyAnswer.Refused (cond (eqb n no_order) answered_before_received n)
-reversed ReplyAnswer.Written = ReplyAnswer.Written
+abbrev reversed : Given (Unit {0}) → Given (Unit {0})
+reversed (refused n) = refused (cond (eqb n (numbers.number NoOrder)) (numbers.number AnsweredBeforeReceived) n)
+reversed (answered tt) = answered tt
 
 abbrev pub reversing_half_circle : Implementation reply
 reversing_half_circle x = record { answer = reversed (replies.ours x).answer; octets = (replies.ours x).octets }
 
-abbrev lowest : BroadcastAnswer → BroadcastAnswer
-lowest (BroadcastAnswer.Refused n) = cond (eqb n no_order) (BroadcastAnswer.Difference (neg_ℤ (pos (2 ^ 63)))) (BroadcastAnswer.Refused n)
-lowest (BroadcastAnswer.Difference z) = BroadcastAnswer.Difference z
+abbrev lowest : Given ℤ → Given ℤ
+lowest (refused n) = cond (eqb n (numbers.number NoOrder)) (answered (neg_ℤ (pos (2 ^ 63)))) (refused n)
+lowest (answered z) = answered z
 
 abbrev pub telling_half_circle : Implementation broadcast_arrival
 telling_half_circle x = lowest (broadcasts.ours_arrival x)
@@ -127,7 +127,7 @@ telling_half_circle x = lowest (broadcasts.ours_arrival x)
 -- ---- the packet: reader and writer refuse what ours refuse, and do nothing
 
 abbrev pub reading_nothing : Implementation read
-reading_nothing p = answer FieldsAnswer.Refused (packet_length_wrong if is_malformed p else otherwise (FieldsAnswer.Fields (fields_of (replicate 48 0))))
+reading_nothing p = gives (PacketLengthWrong if is_malformed p else otherwise (fields_of (replicate 48 0)))
 
 abbrev pub writing_nothing : Implementation write
 writing_nothing x = record { answer = (writing.ours x).answer; octets = x.buffer }
@@ -145,7 +145,7 @@ fourth_year_date s fraction =
     (date_at (s - 86400) fraction))
 
 abbrev pub fourth_year_dates : Implementation date
-fourth_year_dates t = answer DateAnswer.Refused (timestamp_zero if is_zero t else otherwise (DateAnswer.Date (fourth_year_date (seconds_at t) (fraction_of t))))
+fourth_year_dates t = gives (TimestampZero if is_zero t else otherwise (fourth_year_date (seconds_at t) (fraction_of t)))
 
 -- there is such a date where there is one in a leap year, in a year that 4 divides
 abbrev fourth_year_exists : Date → Bool
@@ -158,16 +158,16 @@ abbrev fourth_year_timestamp : Date → Timestamp
 fourth_year_timestamp x = from_seconds (era_seconds (fourth_year_seconds x)) x.fraction
 
 abbrev pub fourth_year_timestamps : Implementation timestamp
-fourth_year_timestamps x = answer TimestampAnswer.Refused (
-    no_such_date if not (fourth_year_exists x) else
-    outside_window if not (in_window (fourth_year_seconds x)) else
-    timestamp_zero if is_zero (fourth_year_timestamp x) else
-    otherwise (TimestampAnswer.Timestamp (fourth_year_timestamp x)))
+fourth_year_timestamps x = gives (
+    NoSuchDate if not (fourth_year_exists x) else
+    OutsideWindow if not (in_window (fourth_year_seconds x)) else
+    TimestampZero if is_zero (fourth_year_timestamp x) else
+    otherwise (fourth_year_timestamp x))
 
 -- ---- Unix time
 
 abbrev to_unix : (Timestamp → UnixTime) → Implementation unix_time
-to_unix u t = answer UnixTimeAnswer.Refused (timestamp_zero if is_zero t else otherwise (UnixTimeAnswer.UnixTime (u t)))
+to_unix u t = gives (TimestampZero if is_zero t else otherwise (u t))
 
 -- nanoseconds rounded to the nearest
 abbrev pub nearest_nanosecond : Implementation unix_time
@@ -182,19 +182,19 @@ abbrev fraction_below : UnixTime → Timestamp
 fraction_below u = from_seconds (era_seconds (nat_abs (from_year0 u.seconds))) (u.nanoseconds * 2 ^ 32 / 10 ^ 9)
 
 abbrev pub fraction_down : Implementation timestamp_of_unix
-fraction_down u = answer TimestampAnswer.Refused (
-    no_such_date if leb (10 ^ 9) u.nanoseconds else
-    outside_window if not (inside (from_year0 u.seconds)) else
-    timestamp_zero if is_zero (fraction_below u) else
-    otherwise (TimestampAnswer.Timestamp (fraction_below u)))
+fraction_down u = gives (
+    NoSuchDate if leb (10 ^ 9) u.nanoseconds else
+    OutsideWindow if not (inside (from_year0 u.seconds)) else
+    TimestampZero if is_zero (fraction_below u) else
+    otherwise (fraction_below u))
 
 -- the window tested before the nanoseconds
 abbrev pub window_first : Implementation timestamp_of_unix
-window_first u = answer TimestampAnswer.Refused (
-    outside_window if not (inside (from_year0 u.seconds)) else
-    no_such_date if leb (10 ^ 9) u.nanoseconds else
-    timestamp_zero if is_zero (timestamp_at u) else
-    otherwise (TimestampAnswer.Timestamp (timestamp_at u)))
+window_first u = gives (
+    OutsideWindow if not (inside (from_year0 u.seconds)) else
+    NoSuchDate if leb (10 ^ 9) u.nanoseconds else
+    TimestampZero if is_zero (timestamp_at u) else
+    otherwise (timestamp_at u))
 
 -- ---- the Time Protocol
 
@@ -210,34 +210,34 @@ little_endian x = record {
 
 -- the first four of any octets
 abbrev pub reading_longer : Implementation read_count
-reading_longer p = answer CountAnswer.Refused (time_length_wrong if ltb (length p) 4 else otherwise (CountAnswer.Count (big_endian (take 4 p))))
+reading_longer p = gives (TimeLengthWrong if ltb (length p) 4 else otherwise (big_endian (take 4 p)))
 
 -- ---- the precision: the greatest power of two not above the tick
 
 abbrev pub rounded_down : Implementation precision
-rounded_down tick = answer PrecisionAnswer.Refused (
-    tick_out_of_range if eqb tick 0 || ltb (2 ^ 32) tick else
-    otherwise (PrecisionAnswer.Precision (pos (least (suc tick) 33 - 1) -ℤ pos 32)))
+rounded_down tick = gives (
+    TickOutOfRange if eqb tick 0 || ltb (2 ^ 32) tick else
+    otherwise (pos (least (suc tick) 33 - 1) -ℤ pos 32))
 
 -- ---- the ledger
 
 -- it refuses every entry by 0
 abbrev pub refusing_entries : Implementation entry
-refusing_entries x = record { answer = EntryAnswer.Refused 0; ledger = x.ledger }
+refusing_entries x = record { answer = refused 0; ledger = x.ledger }
 
 -- it takes every entry
 abbrev pub taking_entries : Implementation entry
-taking_entries x = record { answer = EntryAnswer.Taken; ledger = record { debt = x.ledger.debt +ℤ owed x } }
+taking_entries x = record { answer = answered tt; ledger = record { debt = x.ledger.debt +ℤ owed x } }
 
 -- it pays the whole debt at once, whatever the limit
 abbrev pub paying_all : Implementation tick
-paying_all x = record { answer = TickAnswer.Paid x.ledger.debt; ledger = record { debt = pos 0 } }
+paying_all x = record { answer = answered x.ledger.debt; ledger = record { debt = pos 0 } }
 
 -- ---- the replay
 
 -- it takes every line for malformed
 abbrev pub refusing_lines : Implementation line
-refusing_lines (c, l) = record { client = c; octets = line_malformed ∷ [] }
+refusing_lines (c, l) = record { client = c; octets = numbers.number LineMalformed ∷ [] }
 
 -- it drops the last of an odd number of digits, and obeys the rest
 abbrev pairs : List ℕ → List ℕ
@@ -249,9 +249,9 @@ abbrev pub dropping_digits : Implementation line
 dropping_digits (c, l) = lines.ours (c, pairs l)
 
 -- it starts afresh at a malformed line
-abbrev afresh : Client → Parsed → Client
-afresh next (call x) = next
-afresh next malformed = fresh
+abbrev afresh : Client → Option Call → Client
+afresh next (Some x) = next
+afresh next None = fresh
 
 abbrev pub starting_afresh : Implementation line
 starting_afresh (c, l) = record { client = afresh (lines.ours (c, l)).client (parsed (decode l)); octets = (lines.ours (c, l)).octets }

@@ -1,10 +1,11 @@
 -- Which demand each wrong program fails. Demands 1 and 2 are asked of each call, so that a behaviour with such a program for one call fails them; for demand 3
 -- a behaviour is ours but for its client, whose replay then answers as that client does, or but for its server.
 use Rattle.std.specs.Prelude.{ℕ, ℤ}
-use Rattle.refusals.specs.Numbers.{delay_negative}
+use Rattle.refusals.specs.Numbers.{number}
+use Rattle.refusals.specs.declared.Refusal.TheVariants.{DelayNegative}
 use Rattle.timestamp.specs.declared.Timestamp.{Timestamp}
 use Rattle.client.specs.declared.Client.{Client}
-use Rattle.client.specs.Calls.{Arrival, Call, Result}
+use Rattle.client.specs.Calls.{Arrival, Call, Told}
 use Rattle.demands.specs.Form.{Implementation, Refuses, Answers}
 use Rattle.demands.specs.Wrapper.{through}
 use Rattle.demands.specs.Client as clients
@@ -116,7 +117,7 @@ pub record Refuted : Type 0 where
   pub fresh_with_uptime : Demand2 (with_fresh later_start) → ⊥
   pub takes_no_reply : (number : Client → Arrival → ℕ) → Client23 (taking_none number)
   -- between clocks that tick a reply may be refused by 18, but not every reply
-  pub refuses_by_18 : Ticks (with_client (taking_none (λ c x. delay_negative))) → ⊥
+  pub refuses_by_18 : Ticks (with_client (taking_none (λ c x. (number DelayNegative)))) → ⊥
   pub stays_waiting : Fails2 client staying_waiting
   pub offset_zero : Client23 (measuring zero_offset)
   pub huge_delay_fails : Client23 (measuring huge_delay)
@@ -124,7 +125,7 @@ pub record Refuted : Type 0 where
   pub large_half_fails : Client23 (measuring large_half)
   pub toward_zero_fails : Client23 (measuring toward_zero)
   pub halved_apart_fails : Client23 (measuring halved_apart)
-  pub fixed_when_asking : (guess : Client → Timestamp → ℤ → Result) → Client23 (fixing guess)
+  pub fixed_when_asking : (guess : Client → Timestamp → ℤ → Told) → Client23 (fixing guess)
   pub unsigned_times_fails : Client23 unsigned_times
   pub always_stops : Fails2 client always_stopping × (NeverStops (with_client always_stopping) → ⊥)
   pub never_stops : Fails2 client never_stopping

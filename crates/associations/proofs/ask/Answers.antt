@@ -1,15 +1,18 @@
--- `associations::ask`: what the call on the table gives is what the rules say of the list.
-use Rattle.std.proofs.Common.{length}
-use Rattle.association_rules.specs.Associations.{asked_for, list_after_ask, buffer_after_ask}
-use Rattle.association_rules.proofs.AsList.{call_as_list, buffer_as_list}
+-- No test of the list refuses: what the client's own call gives.
+use Rattle.std.proofs.Common.{sym, length}
+use Rattle.association_rules.specs.Associations.{asked_for, buffer_after_ask}
+use Rattle.association_rules.proofs.Lists.{taken_call, taken_octets}
 use Rattle.client.specs.Ask.{after_ask, after_ask_buffer}
 use Rattle.associations.proofs.ask.Goals as goal
 
-pub returns : goal.returns
-unfolding asked_for list_after_ask buffer_after_ask
-returns c =
+pub returns-clause-result : goal.returns-clause-result
+unfolding asked_for
+returns-clause-result c =
     let a = c.args in
-    let b = a.buffer.now in
-    let (said, left) = call_as_list a.list.now a.at a.in_use (λ x. after_ask x (length b) a.version a.clock a.token a.uptime) in
-    rw (c.store.ensures, c.ask-effect.ensures.effect, c.ask-effect.ensures.buffer, c.load.ensures)
-    (said, left, buffer_as_list a.list.now a.at a.in_use b (λ x. after_ask_buffer x b a.version a.clock a.token a.uptime))
+    taken_call a.list.now a.at a.in_use (sym c.in_default.ensures) _ (λ x. after_ask x (length a.buffer.now) a.version a.clock a.token a.uptime) c.ask-called.ensures.answer
+
+pub returns-clause-buffer : goal.returns-clause-buffer
+unfolding buffer_after_ask
+returns-clause-buffer c =
+    let a = c.args in
+    taken_octets a.list.now a.at a.in_use (sym c.in_default.ensures) _ (λ x. after_ask_buffer x a.buffer.now a.version a.clock a.token a.uptime) _ c.ask-called.ensures.buffer

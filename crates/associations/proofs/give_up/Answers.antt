@@ -1,11 +1,12 @@
--- `associations::give_up`: what the call on the table gives is what the rules say of the list.
-use Rattle.association_rules.specs.Associations.{gave_up_for, list_after_give_up}
-use Rattle.association_rules.proofs.AsList.{call_as_list}
+-- No test of the list refuses: what the client's own call gives.
+use Rattle.std.proofs.Common.{sym}
+use Rattle.association_rules.specs.Associations.{gave_up_for}
+use Rattle.association_rules.proofs.Lists.{taken_call}
 use Rattle.client.specs.GiveUp.{gave_up}
 use Rattle.associations.proofs.give_up.Goals as goal
 
-pub returns : goal.returns
-unfolding gave_up_for list_after_give_up
-returns c =
+pub returns-clause-result : goal.returns-clause-result
+unfolding gave_up_for
+returns-clause-result c =
     let a = c.args in
-    rw (c.store.ensures, c.give_up-effect.ensures, c.load.ensures) (call_as_list a.list.now a.at a.in_use (λ x. gave_up x a.uptime))
+    taken_call a.list.now a.at a.in_use (sym c.in_default.ensures) _ (λ x. gave_up x a.uptime) c.give_up-called.ensures

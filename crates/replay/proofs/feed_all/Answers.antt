@@ -1,23 +1,30 @@
-use Rattle.std.proofs.Common.{length, arith, rules}
+use Rattle.std.proofs.Common.{◌≤◌, length, arith, rules, length-drop}
+use Rattle.std.proofs.lemmas.List.{take_rest}
 use Rattle.replay.proofs.Calls.{consumed_within, takes}
 use Rattle.replay.proofs.Feeding.{turn}
 use Rattle.replay.proofs.feed_all.Goals as goal
 
-pub overflow_add-at : goal.overflow_add-at
-overflow_add-at g c =
-    let t = consumed_within c.loop-at.replay c.args.input.now c.loop-at.at (length c.loop-at.output) c.feed-fed.result c.loop-at-test.true c.feed-fed.ensures.answer in
-    search rules
-
-pub loop-at-smaller : goal.loop-at-smaller
-loop-at-smaller g c =
-    let t = takes c.loop-at.replay c.args.input.now c.loop-at.at (length c.loop-at.output) c.feed-fed.result c.loop-at-test.true c.feed-fed.ensures.answer (omega arith) in
+pub slice_bounds-left-count : goal.slice_bounds-left-count
+slice_bounds-left-count g c =
+    let l = c.loop-left in
+    let w = consumed_within l.replay l.left.now (length l.output) c.feed-fed.ensures.answer in
     omega arith
 
-pub loop-at-preserved : goal.loop-at-preserved
-loop-at-preserved g c = record {
-  within = consumed_within c.loop-at.replay c.args.input.now c.loop-at.at (length c.loop-at.output) c.feed-fed.result c.loop-at-test.true c.feed-fed.ensures.answer;
-  room = search rules;
-  answered = turn c.args.start c.loop-at.replay c.args.input.now c.loop-at.at (length c.loop-at.output) c.loop-at.output c.feed-fed.new.output c.feed-fed.result
-      (g.W.Write.contents c.args.writer.now) (g.W.Write.contents c.loop-at.writer) (g.W.Write.contents c.write_all.new.self)
-      c.feed-fed.ensures.answer c.feed-fed.ensures.buffer c.loop-at.invariant.answered c.in_ok-write_all.ensures.bytes;
-}
+pub slice_bounds-left-start : goal.slice_bounds-left-start
+slice_bounds-left-start g c =
+    let l = c.loop-left in
+    let w = consumed_within l.replay l.left.now (length l.output) c.feed-fed.ensures.answer in
+    search rules
+
+pub loop-left-smaller : goal.loop-left-smaller
+loop-left-smaller g c =
+    let l = c.loop-left in
+    let some : 1 ≤ length l.left.now = search rules in
+    let w = consumed_within l.replay l.left.now (length l.output) c.feed-fed.ensures.answer in
+    let t = takes l.replay l.left.now (length l.output) c.feed-fed.ensures.answer some (omega arith) in
+    simp (take_rest, length-drop) (search rules)
+
+pub loop-left-preserved : goal.loop-left-preserved
+loop-left-preserved g c =
+    let l = c.loop-left in
+    rw take_rest (turn l.replay l.left.now l.output (length l.output) c.feed-fed.ensures.answer c.feed-fed.ensures.buffer l.invariant c.in_ok-write_all.ensures.bytes)

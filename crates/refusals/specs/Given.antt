@@ -1,0 +1,18 @@
+-- What a call gives its caller, where a refusal is known by its number.
+use Rattle.std.specs.Prelude.{ℕ, Result, Ok, Err}
+use Rattle.refusals.specs.declared.Refusal.{Refusal}
+use Rattle.refusals.specs.Numbers.{number}
+
+pub data Given (A : Type 0) : Type 0 where
+  refused : ℕ → Given A
+  answered : A → Given A
+
+-- what a call of the code gives
+abbrev pub numbered : {A : Type 0} → Result A Refusal → Given A
+numbered (Err r) = refused (number r)
+numbered (Ok a) = answered a
+
+-- the number of a refusal, and 0 of an answer
+abbrev pub given_number : {A : Type 0} → Given A → ℕ
+given_number (refused n) = n
+given_number (answered a) = 0
