@@ -24,7 +24,8 @@ use Rattle.firmware_layouts.specs.Image.{is_image, record_in}
 use Rattle.firmware_layouts.specs.Answer.{answer_in}
 use Rattle.firmware_layouts.proofs.Laws as layouts
 use Rattle.refusals.specs.Given.{numbered, given_number}
-use Rattle.firmware.specs.Numbers.{number_of, replied_number}
+use Rattle.refusals.specs.Given.{result_number}
+use Rattle.firmware.specs.Numbers.{number_of}
 use Rattle.firmware.specs.Client as firmware
 use Rattle.firmware.specs.Client.{LentCall, ask, arrival, give_up}
 use Rattle.demands.specs.Form.{refusal, kiss, acceptance, Rules, ◌unless◌then◌, ◌provided◌else◌, does, refuses}
@@ -201,7 +202,7 @@ client_for_c_meets = record {
 
 -- ---- the server
 
-number_same : (o : Result (Unit {0}) Refusal) → replied_number o ≡ given_number (numbered o)
+number_same : (o : Result (Unit {0}) Refusal) → result_number o ≡ given_number (numbered o)
 number_same (Err r) = refl
 number_same (Ok u) = refl
 

@@ -34,7 +34,7 @@ impl Exchange {
         token: u64,
         uptime: u64,
     ) -> io::Result<()> {
-        let clock = Timestamp::from_units(clock);
+        let clock = Timestamp::from(clock);
         let called = self
             .client
             .ask(&mut self.request, 4, clock, Token(token), uptime);
@@ -47,7 +47,7 @@ impl Exchange {
     }
 
     pub(crate) fn arrival(&mut self, rt: &impl Print, alternate: bool) -> io::Result<()> {
-        let t4 = Timestamp::from_units(T4);
+        let t4 = Timestamp::from(T4);
         let called = self.client.arrival(&self.reply, t4, alternate);
         self.client = called.client;
         show(rt, "arrival", called.answer.map(Arrived))
@@ -74,8 +74,8 @@ pub(crate) fn reply(
         identifier: 0x4750_5300,
         reference: Timestamp::from_seconds(4, 0),
     };
-    let t2 = Timestamp::from_units(0x4_8000_0000);
-    let t3 = Timestamp::from_units(0x5_8000_0000);
+    let t2 = Timestamp::from(0x4_8000_0000);
+    let t3 = Timestamp::from(0x5_8000_0000);
     let written = server::reply(settings, request, t2, t3, buffer);
     show(
         rt,

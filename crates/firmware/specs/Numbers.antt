@@ -1,8 +1,6 @@
 -- Numbers that are wider in C than in the calls, and the number that a call returns (docs/C.md).
-use Rattle.std.specs.Prelude.{ℕ, Bool, cond, not, eqb, ℤ, pos, negsuc, Result, Ok, Err}
+use Rattle.std.specs.Prelude.{ℕ, Bool, cond, not, eqb, ℤ, pos, negsuc}
 use Rattle.std.specs.Int.Signed.{lt_z}
-use Rattle.refusals.specs.declared.Refusal.{Refusal}
-use Rattle.refusals.specs.Numbers.{number}
 use Rattle.client.specs.Calls.{Told, refused, done, accepted, kiss}
 
 -- a number for yes or no is no at 0, else yes
@@ -19,7 +17,3 @@ number_of (refused n) = n
 number_of done = 0
 number_of (accepted offset half delay) = 0
 number_of (kiss code row) = 0
-
-abbrev pub replied_number : {A : Type 0} → Result A Refusal → ℕ
-replied_number (Err r) = number r
-replied_number (Ok a) = 0

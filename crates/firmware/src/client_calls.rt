@@ -3,13 +3,13 @@ ghost use Rattle.std.specs.Prelude.{◌≡◌, false, true, MatchResult};
 ghost use Rattle.refusals.specs.declared.Refusal.TheVariants.{ImageNotLegal};
 ghost use Rattle.ordered_tests.specs.Tests.{kept_of};
 ghost use Rattle.firmware_layouts.specs.Image.{is_image, record_in, with_image};
-ghost use Rattle.firmware.specs.Numbers.{replied_number};
+ghost use Rattle.refusals.specs.Given.{result_number};
 ghost use Rattle.firmware.specs.Client.{fresh_number, fresh_image, ask, arrival, give_up, number, image_after, buffer_after, answer_after};
 
-use crate::numbers::{narrow, replied_number};
+use crate::numbers::narrow;
 use client::{Called, Client};
 use firmware_layouts::{ANSWER, IMAGE, read_image, write_answer, write_image};
-use refusals::Refusal;
+use refusals::{Refusal, result_number};
 use timestamp::Timestamp;
 use token::Token;
 
@@ -52,7 +52,7 @@ fn ask(
     token: u64,
     uptime: u64,
 ) -> Result<(), Refusal>
-    ensures number { replied_number result ≡ number image.old (ask buffer.old version clock token uptime) }
+    ensures number { result_number result ≡ number image.old (ask buffer.old version clock token uptime) }
     ensures image { image.new ≡ image_after image.old (ask buffer.old version clock token uptime) }
     ensures buffer { buffer.new ≡ buffer_after image.old (ask buffer.old version clock token uptime) }
 {
@@ -60,7 +60,7 @@ fn ask(
     let called = client.ask(
         buffer,
         narrow(version),
-        Timestamp::from_units(clock),
+        Timestamp::from(clock),
         Token(token),
         uptime,
     );
@@ -75,7 +75,7 @@ fn arrival(
     alternate: u32,
     packet: &[u8],
 ) -> Result<(), Refusal>
-    ensures number { replied_number result ≡ number image.old (arrival answer.old t4 alternate packet.now) }
+    ensures number { result_number result ≡ number image.old (arrival answer.old t4 alternate packet.now) }
     ensures image { image.new ≡ image_after image.old (arrival answer.old t4 alternate packet.now) }
     ensures answer { answer.new ≡ answer_after image.old (arrival answer.old t4 alternate packet.now) }
 {
@@ -83,7 +83,7 @@ fn arrival(
     if answer.len() != ANSWER {
         return Err(Refusal::ImageNotLegal);
     }
-    let called = client.arrival(packet, Timestamp::from_units(t4), alternate != 0);
+    let called = client.arrival(packet, Timestamp::from(t4), alternate != 0);
     write_answer(answer, called.answer?);
     write_image(image, called.client);
     Ok(())
@@ -91,7 +91,7 @@ fn arrival(
 
 #[tactic(auto, unfolding(crate::specs::Client::number, crate::specs::Client::image_after, crate::specs::Client::buffer_after))]
 fn give_up(image: &mut [u8], uptime: u64) -> Result<(), Refusal>
-    ensures number { replied_number result ≡ number image.old (give_up uptime) }
+    ensures number { result_number result ≡ number image.old (give_up uptime) }
     ensures image { image.new ≡ image_after image.old (give_up uptime) }
 {
     let client = record_of(image)?;
@@ -111,7 +111,7 @@ pub fn pongulvesz_ask(
     ensures image { image.new ≡ image_after image.old (ask buffer.old version clock token uptime) }
     ensures buffer { buffer.new ≡ buffer_after image.old (ask buffer.old version clock token uptime) }
 {
-    u32::from(replied_number(ask(image, buffer, version, clock, token, uptime)))
+    u32::from(result_number(ask(image, buffer, version, clock, token, uptime)))
 }
 
 // `Client::arrival`: the client's checks of a server reply (RFC 4330, section 5). `alternate` tells whether an alternate server exists: 0 is no.
@@ -126,7 +126,7 @@ pub fn pongulvesz_arrival(
     ensures image { image.new ≡ image_after image.old (arrival answer.old t4 alternate packet.now) }
     ensures answer { answer.new ≡ answer_after image.old (arrival answer.old t4 alternate packet.now) }
 {
-    u32::from(replied_number(arrival(image, answer, t4, alternate, packet)))
+    u32::from(result_number(arrival(image, answer, t4, alternate, packet)))
 }
 
 // `Client::give_up`: the request has timed out (RFC 4330, section 10).
@@ -134,5 +134,5 @@ pub fn pongulvesz_give_up(image: &mut [u8], uptime: u64) -> u32
     ensures number { result ≡ number image.old (give_up uptime) }
     ensures image { image.new ≡ image_after image.old (give_up uptime) }
 {
-    u32::from(replied_number(give_up(image, uptime)))
+    u32::from(result_number(give_up(image, uptime)))
 }

@@ -1,8 +1,6 @@
-// Numbers that are wider in C than in the calls, and the number that a call returns.
+// Numbers that are wider in C than in the calls.
 ghost use Rattle.std.specs.Prelude.{◌≡◌, min};
-ghost use Rattle.firmware.specs.Numbers.{narrow_signed, replied_number};
-
-use refusals::Refusal;
+ghost use Rattle.firmware.specs.Numbers.{narrow_signed};
 
 // What 8 bits do not hold becomes 255, and is refused by the number of its range.
 pub fn narrow(n: u32) -> u8
@@ -16,14 +14,4 @@ pub fn narrow_signed(n: i32) -> i8
     ensures { result ≡ narrow_signed n }
 {
     n.clamp(-128, 127) as i8
-}
-
-// A refusal's number, and 0 where nothing is refused.
-pub fn replied_number(answer: Result<(), Refusal>) -> u8
-    ensures { result ≡ replied_number answer }
-{
-    match answer {
-        Err(refusal) => refusal.number(),
-        Ok(()) => 0,
-    }
 }

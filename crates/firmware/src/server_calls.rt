@@ -2,7 +2,8 @@
 ghost use Rattle.std.specs.Prelude.{◌≡◌};
 ghost use Rattle.firmware.specs.Server.{settings, reply_number, reply_buffer};
 
-use crate::numbers::{narrow, narrow_signed, replied_number};
+use crate::numbers::{narrow, narrow_signed};
+use refusals::result_number;
 use server_packet::Settings;
 use timestamp::Timestamp;
 
@@ -21,7 +22,7 @@ pub fn settings_of(
         leap: narrow(leap),
         precision: narrow_signed(precision),
         identifier,
-        reference: Timestamp::from_units(reference),
+        reference: Timestamp::from(reference),
     }
 }
 
@@ -44,9 +45,9 @@ pub fn pongulvesz_reply(
     let answer = server::reply(
         set,
         request,
-        Timestamp::from_units(t2),
-        Timestamp::from_units(t3),
+        Timestamp::from(t2),
+        Timestamp::from(t3),
         buffer,
     );
-    u32::from(replied_number(answer))
+    u32::from(result_number(answer))
 }

@@ -4,7 +4,7 @@
 ghost use Rattle.std.specs.Prelude.{◌≡◌, length};
 ghost use Rattle.timestamp.specs.Timestamp as timestamps;
 ghost use Rattle.broadcast.specs.Broadcast.{broadcast_arrived};
-ghost use Rattle.firmware.specs.Numbers.{replied_number};
+ghost use Rattle.refusals.specs.Given.{result_number};
 ghost use Rattle.firmware.specs.Server.{settings};
 ghost use Rattle.firmware_broadcast.specs.Broadcast.{write_answer, buffer_after, difference_after};
 
@@ -21,7 +21,7 @@ pub extern "C" fn pongulvesz_broadcast(
     t3: u64,
     buffer: &mut [u8],
 ) -> u32
-    ensures number { result ≡ replied_number (write_answer (settings synchronised leap precision identifier reference) version poll t3 (length buffer.old)) }
+    ensures number { result ≡ result_number (write_answer (settings synchronised leap precision identifier reference) version poll t3 (length buffer.old)) }
     ensures buffer { buffer.new ≡ buffer_after (settings synchronised leap precision identifier reference) version poll t3 buffer.old }
 {
     firmware_broadcast::pongulvesz_broadcast(
@@ -40,7 +40,7 @@ pub extern "C" fn pongulvesz_broadcast(
 // `broadcast::arrival`. Refusals, in order: 7, 36, 37, 38, 39, 40, 3, 43.
 #[unsafe(no_mangle)]
 pub extern "C" fn pongulvesz_broadcast_arrival(t4: u64, packet: &[u8], difference: &mut i64) -> u32
-    ensures number { result ≡ replied_number (broadcast_arrived packet.now (timestamps.timestamp t4)) }
+    ensures number { result ≡ result_number (broadcast_arrived packet.now (timestamps.timestamp t4)) }
     ensures difference { difference.new ≡ difference_after difference.old (broadcast_arrived packet.now (timestamps.timestamp t4)) }
 {
     firmware_broadcast::pongulvesz_broadcast_arrival(t4, packet, difference)

@@ -6,7 +6,8 @@ ghost use Rattle.std.specs.Prelude.{◌≡◌};
 ghost use Rattle.timestamp.specs.Timestamp as timestamps;
 ghost use Rattle.calendar.specs.Dates.{date};
 ghost use Rattle.calendar.specs.Calendar.{date_of, timestamp_of};
-ghost use Rattle.firmware_times.specs.Times.{number_of, timestamp_after};
+ghost use Rattle.refusals.specs.Given.{result_number};
+ghost use Rattle.firmware_times.specs.Times.{timestamp_after};
 ghost use Rattle.firmware_dates.specs.Dates.{date_after, narrowed};
 
 use calendar::Date;
@@ -24,11 +25,11 @@ pub fn pongulvesz_date(
     second: &mut u32,
     fraction: &mut u32,
 ) -> u32
-    ensures number { result ≡ number_of (date_of (timestamps.timestamp timestamp)) }
+    ensures number { result ≡ result_number (date_of (timestamps.timestamp timestamp)) }
     ensures date { date year.new month.new day.new hour.new minute.new second.new fraction.new
         ≡ date_after (date year.old month.old day.old hour.old minute.old second.old fraction.old) (date_of (timestamps.timestamp timestamp)) }
 {
-    match calendar::date_of_timestamp(Timestamp::from_units(timestamp)) {
+    match calendar::date_of_timestamp(Timestamp::from(timestamp)) {
         Ok(d) => {
             *year = d.year;
             *month = u32::from(d.month);
@@ -77,7 +78,7 @@ pub fn pongulvesz_timestamp_of_date(
     fraction: u32,
     timestamp: &mut u64,
 ) -> u32
-    ensures number { result ≡ number_of (timestamp_of (narrowed (date year month day hour minute second fraction))) }
+    ensures number { result ≡ result_number (timestamp_of (narrowed (date year month day hour minute second fraction))) }
     ensures timestamp { timestamp.new ≡ timestamp_after timestamp.old (timestamp_of (narrowed (date year month day hour minute second fraction))) }
 {
     let d = narrowed_date(year, month, day, hour, minute, second, fraction);

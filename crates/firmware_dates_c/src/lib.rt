@@ -5,7 +5,8 @@ ghost use Rattle.std.specs.Prelude.{◌≡◌};
 ghost use Rattle.timestamp.specs.Timestamp as timestamps;
 ghost use Rattle.calendar.specs.Dates.{date};
 ghost use Rattle.calendar.specs.Calendar.{date_of, timestamp_of};
-ghost use Rattle.firmware_times.specs.Times.{number_of, timestamp_after};
+ghost use Rattle.refusals.specs.Given.{result_number};
+ghost use Rattle.firmware_times.specs.Times.{timestamp_after};
 ghost use Rattle.firmware_dates.specs.Dates.{date_after, narrowed};
 
 // `calendar::date_of_timestamp`. Refusals: 24.
@@ -20,7 +21,7 @@ pub extern "C" fn pongulvesz_date(
     second: &mut u32,
     fraction: &mut u32,
 ) -> u32
-    ensures number { result ≡ number_of (date_of (timestamps.timestamp timestamp)) }
+    ensures number { result ≡ result_number (date_of (timestamps.timestamp timestamp)) }
     ensures date { date year.new month.new day.new hour.new minute.new second.new fraction.new
         ≡ date_after (date year.old month.old day.old hour.old minute.old second.old fraction.old) (date_of (timestamps.timestamp timestamp)) }
 {
@@ -39,7 +40,7 @@ pub extern "C" fn pongulvesz_timestamp_of_date(
     fraction: u32,
     timestamp: &mut u64,
 ) -> u32
-    ensures number { result ≡ number_of (timestamp_of (narrowed (date year month day hour minute second fraction))) }
+    ensures number { result ≡ result_number (timestamp_of (narrowed (date year month day hour minute second fraction))) }
     ensures timestamp { timestamp.new ≡ timestamp_after timestamp.old (timestamp_of (narrowed (date year month day hour minute second fraction))) }
 {
     firmware_dates::pongulvesz_timestamp_of_date(

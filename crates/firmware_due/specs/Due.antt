@@ -2,7 +2,6 @@
 use Rattle.std.specs.Prelude.{ℕ, not, List, Result, Ok, Err}
 use Rattle.refusals.specs.declared.Refusal.{Refusal}
 use Rattle.refusals.specs.declared.Refusal.TheVariants.{ImageNotLegal}
-use Rattle.refusals.specs.Numbers.{number}
 use Rattle.ordered_tests.specs.Tests.{Tests, ◌if◌else◌, given}
 use Rattle.client.specs.declared.Client.{Client}
 use Rattle.firmware_layouts.specs.Image.{is_image, record_in}
@@ -20,11 +19,7 @@ ask_due image = given (on_image ask_due_tests image)
 unfoldable pub give_up_due : List ℕ → Result ℕ Refusal
 give_up_due image = given (on_image give_up_due_tests image)
 
--- the number that the call returns, and the lent number after it
-abbrev pub number_of : Result ℕ Refusal → ℕ
-number_of (Err r) = number r
-number_of (Ok u) = 0
-
+-- the lent number after the call
 abbrev pub uptime_after : ℕ → Result ℕ Refusal → ℕ
 uptime_after uptime (Err r) = uptime
 uptime_after uptime (Ok u) = u

@@ -2,16 +2,10 @@
 use Rattle.std.specs.Prelude.{ℕ, List, Option, None, Some, Result, Ok, Err, ltb, length}
 use Rattle.refusals.specs.declared.Refusal.{Refusal}
 use Rattle.refusals.specs.declared.Refusal.TheVariants.{FieldTooLarge}
-use Rattle.refusals.specs.Numbers.{number}
 use Rattle.ordered_tests.specs.Tests.{Tests, ◌if◌else◌, given, kept}
 use Rattle.extension.specs.declared.Cursor.{Cursor}
 use Rattle.extension.specs.declared.Field.{Field}
 use Rattle.extension_writer.specs.Writer.{add_tests, with_field}
-
--- what a call returns
-abbrev pub number_of : {A : Type 0} → Result A Refusal → ℕ
-number_of (Err r) = number r
-number_of (Ok a) = 0
 
 -- ---- where the first field would begin
 

@@ -4,14 +4,15 @@
 
 ghost use Rattle.std.specs.Prelude.{◌≡◌};
 ghost use Rattle.extension.specs.Reader as reader;
-ghost use Rattle.firmware_fields.specs.Fields.{number_of, cursor_after, numbers, numbers_after, add_answer, size_after, buffer_after};
+ghost use Rattle.refusals.specs.Given.{result_number};
+ghost use Rattle.firmware_fields.specs.Fields.{cursor_after, numbers, numbers_after, add_answer, size_after, buffer_after};
 
 use extension::Cursor;
 use refusals::Refusal;
 
 // `extension::begin`. Refusals: 7.
 pub fn pongulvesz_fields(packet: &[u8], cursor: &mut usize) -> u32
-    ensures number { result ≡ number_of (reader.begun packet.now) }
+    ensures number { result ≡ result_number (reader.begun packet.now) }
     ensures cursor { cursor.new ≡ cursor_after cursor.old (reader.begun packet.now) }
 {
     match extension::begin(packet) {
@@ -32,7 +33,7 @@ pub fn pongulvesz_next_field(
     start: &mut usize,
     end: &mut usize,
 ) -> u32
-    ensures number { result ≡ number_of (reader.next packet.now (reader.cursor cursor.old)) }
+    ensures number { result ≡ result_number (reader.next packet.now (reader.cursor cursor.old)) }
     ensures numbers { numbers cursor.new found.new field_type.new start.new end.new
         ≡ numbers_after (numbers cursor.old found.old field_type.old start.old end.old) (reader.next packet.now (reader.cursor cursor.old)) }
 {
@@ -61,7 +62,7 @@ pub fn pongulvesz_add_field(
     field_type: u32,
     body: &[u8],
 ) -> u32
-    ensures number { result ≡ number_of (add_answer buffer.old size.old field_type body.now) }
+    ensures number { result ≡ result_number (add_answer buffer.old size.old field_type body.now) }
     ensures size { size.new ≡ size_after size.old (add_answer buffer.old size.old field_type body.now) }
     ensures buffer { buffer.new ≡ buffer_after buffer.old size.old field_type body.now }
 {

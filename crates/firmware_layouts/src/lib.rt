@@ -53,7 +53,7 @@ fn record(image: &[u8]) -> Client
 {
     Client {
         phase: phase_of(octet_or_zero(image, 0)),
-        t1: Timestamp::from_units(read_be64(image, 8)),
+        t1: Timestamp::from(read_be64(image, 8)),
         token: Token(read_be64(image, 16)),
         version: octet_or_zero(image, 1),
         asked: octet_or_zero(image, 2) == 1,

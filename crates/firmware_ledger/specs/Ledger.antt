@@ -1,15 +1,8 @@
 -- The ledger for C (docs/C.md). The debt after a call is that of the record which the inner call hands back: after a refusal the same.
 use Rattle.std.specs.Prelude.{ℕ, min, ℤ, Result, Ok, Err}
 use Rattle.refusals.specs.declared.Refusal.{Refusal}
-use Rattle.refusals.specs.Numbers.{number}
-use Rattle.ledger.specs.declared.Ledger.{Ledger}
 use Rattle.ledger.specs.declared.Called.{Called}
 use Rattle.ledger.specs.Ledger.{entered, ticked}
-
--- what a call returns
-abbrev pub number_of : {A : Type 0} → Result A Refusal → ℕ
-number_of (Err r) = number r
-number_of (Ok a) = 0
 
 -- the inner calls on the record with this debt; a half that 8 bits do not hold becomes 255, which 30 refuses
 abbrev pub entry_of : (debt offset : ℤ) (half : ℕ) → Called (Unit {0})

@@ -3,14 +3,15 @@
 #![tactic(auto)]
 
 ghost use Rattle.std.specs.Prelude.{◌≡◌};
-ghost use Rattle.firmware_ledger.specs.Ledger.{number_of, entry_of, tick_of, paid_after};
+ghost use Rattle.refusals.specs.Given.{result_number};
+ghost use Rattle.firmware_ledger.specs.Ledger.{entry_of, tick_of, paid_after};
 
 use firmware::numbers::narrow;
 use ledger::Ledger;
 
 // `Ledger::entry`. Refusals, in order: 29, 30, 31.
 pub fn pongulvesz_entry(debt: &mut i64, offset: i64, half: u32) -> u32
-    ensures number { result ≡ number_of (entry_of debt.old offset half).answer }
+    ensures number { result ≡ result_number (entry_of debt.old offset half).answer }
     ensures debt { debt.new ≡ (entry_of debt.old offset half).ledger.debt }
 {
     let owed = *debt;
@@ -24,7 +25,7 @@ pub fn pongulvesz_entry(debt: &mut i64, offset: i64, half: u32) -> u32
 
 // `Ledger::tick`. Refusals, in order: 29, 32.
 pub fn pongulvesz_tick(debt: &mut i64, limit: u64, paid: &mut i64) -> u32
-    ensures number { result ≡ number_of (tick_of debt.old limit).answer }
+    ensures number { result ≡ result_number (tick_of debt.old limit).answer }
     ensures debt { debt.new ≡ (tick_of debt.old limit).ledger.debt }
     ensures paid { paid.new ≡ paid_after paid.old (tick_of debt.old limit).answer }
 {

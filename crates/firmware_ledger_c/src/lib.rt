@@ -2,12 +2,13 @@
 #![tactic(auto)]
 
 ghost use Rattle.std.specs.Prelude.{◌≡◌};
-ghost use Rattle.firmware_ledger.specs.Ledger.{number_of, entry_of, tick_of, paid_after};
+ghost use Rattle.refusals.specs.Given.{result_number};
+ghost use Rattle.firmware_ledger.specs.Ledger.{entry_of, tick_of, paid_after};
 
 // `Ledger::entry`. Refusals, in order: 29, 30, 31.
 #[unsafe(no_mangle)]
 pub extern "C" fn pongulvesz_entry(debt: &mut i64, offset: i64, half: u32) -> u32
-    ensures number { result ≡ number_of (entry_of debt.old offset half).answer }
+    ensures number { result ≡ result_number (entry_of debt.old offset half).answer }
     ensures debt { debt.new ≡ (entry_of debt.old offset half).ledger.debt }
 {
     firmware_ledger::pongulvesz_entry(debt, offset, half)
@@ -16,7 +17,7 @@ pub extern "C" fn pongulvesz_entry(debt: &mut i64, offset: i64, half: u32) -> u3
 // `Ledger::tick`. Refusals, in order: 29, 32.
 #[unsafe(no_mangle)]
 pub extern "C" fn pongulvesz_tick(debt: &mut i64, limit: u64, paid: &mut i64) -> u32
-    ensures number { result ≡ number_of (tick_of debt.old limit).answer }
+    ensures number { result ≡ result_number (tick_of debt.old limit).answer }
     ensures debt { debt.new ≡ (tick_of debt.old limit).ledger.debt }
     ensures paid { paid.new ≡ paid_after paid.old (tick_of debt.old limit).answer }
 {

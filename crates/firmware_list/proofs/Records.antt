@@ -32,7 +32,8 @@ use Rattle.firmware_layouts.specs.Image.{is_image, record_in, image_of, image_re
 use Rattle.firmware_layouts.proofs.Layouts.{length_image}
 use Rattle.firmware_layouts.proofs.Laws.{laws}
 use Rattle.firmware_list.specs.Images.{count, are_images, is_list, records_of, records_in, images_of, HoldsFirst, with_record}
-use Rattle.firmware.specs.Numbers.{number_of, replied_number}
+use Rattle.refusals.specs.Given.{result_number}
+use Rattle.firmware.specs.Numbers.{number_of}
 use Rattle.firmware_list.specs.Calls.{next_list}
 
 both : (a b : Bool) → a && b ≡ true → (a ≡ true) × (b ≡ true)
@@ -121,7 +122,7 @@ unfolding buffer_after_ask
 nothing_asked records at in_use buffer version clock token uptime e = rw (e, empty at in_use)
 
 -- the number of a call that tells nothing but a refusal
-number_call : (a : Result (Unit {0}) Refusal) → number_of (said_call a) ≡ replied_number a
+number_call : (a : Result (Unit {0}) Refusal) → number_of (said_call a) ≡ result_number a
 number_call (Err r) = refl
 number_call (Ok u) = refl
 
@@ -257,8 +258,8 @@ module _ (list : List ℕ) (is : is_list list ≡ true) where
         said : r.answer ≡ answer_on call (records_in list)
         said = ap (λ (z : ListCalled (Unit {0})). z.answer) is-result ∙ same_answer call
 
-        pub call_number : {a : Result (Unit {0}) Refusal} → a ≡ r.answer → replied_number a ≡ number_of (said_call (answer_on call (records_in list)))
-        call_number e = ap replied_number (e ∙ said) ∙ sym (number_call (answer_on call (records_in list)))
+        pub call_number : {a : Result (Unit {0}) Refusal} → a ≡ r.answer → result_number a ≡ number_of (said_call (answer_on call (records_in list)))
+        call_number e = ap result_number (e ∙ said) ∙ sym (number_call (answer_on call (records_in list)))
 
         pub call_list : {c : Client} → c ≡ record_after records (count list) (list_on call lent) at
             → kept_of r.answer list (with_record list at c) ≡ next_list list (said_call (answer_on call (records_in list))) (list_on call (records_in list))

@@ -1,16 +1,16 @@
 // The calls for one record of a list. Every call refuses by 46 before anything else. A refused call returns its number and writes nothing.
 ghost use Rattle.std.specs.Prelude.{◌≡◌};
 ghost use Rattle.ordered_tests.specs.Tests.{kept_of};
-ghost use Rattle.firmware.specs.Numbers.{replied_number};
+ghost use Rattle.refusals.specs.Given.{result_number};
 ghost use Rattle.firmware_list.specs.Images.{with_record};
 ghost use Rattle.firmware_list.specs.Calls.{ask, arrival, give_up, number, list_after, in_use_after, buffer_after, answer_after};
 
 use crate::images::{load, store};
 use associations_by_value::CalledByValue;
 use client::Client;
-use firmware::numbers::{narrow, replied_number};
+use firmware::numbers::narrow;
 use firmware_layouts::{ANSWER, IMAGE, write_answer};
-use refusals::Refusal;
+use refusals::{Refusal, result_number};
 use timestamp::Timestamp;
 use token::Token;
 
@@ -35,7 +35,7 @@ fn ask(
     token: u64,
     uptime: u64,
 ) -> Result<(), Refusal>
-    ensures number { replied_number result ≡ number list.old at in_use (ask buffer.old version clock token uptime) }
+    ensures number { result_number result ≡ number list.old at in_use (ask buffer.old version clock token uptime) }
     ensures list { list.new ≡ list_after list.old at in_use (ask buffer.old version clock token uptime) }
     ensures buffer { buffer.new ≡ buffer_after list.old at in_use (ask buffer.old version clock token uptime) }
 {
@@ -49,7 +49,7 @@ fn ask(
         in_use,
         buffer,
         narrow(version),
-        Timestamp::from_units(clock),
+        Timestamp::from(clock),
         Token(token),
         uptime,
     );
@@ -65,7 +65,7 @@ fn arrival(
     t4: u64,
     packet: &[u8],
 ) -> Result<(), Refusal>
-    ensures number { replied_number result ≡ number list.old at in_use.old (arrival answer.old t4 packet.now) }
+    ensures number { result_number result ≡ number list.old at in_use.old (arrival answer.old t4 packet.now) }
     ensures list { list.new ≡ list_after list.old at in_use.old (arrival answer.old t4 packet.now) }
     ensures in_use { in_use.new ≡ in_use_after list.old at in_use.old (arrival answer.old t4 packet.now) }
     ensures answer { answer.new ≡ answer_after list.old at in_use.old (arrival answer.old t4 packet.now) }
@@ -82,7 +82,7 @@ fn arrival(
         at,
         *in_use,
         packet,
-        Timestamp::from_units(t4),
+        Timestamp::from(t4),
     );
     // A refusal hands the number in use back as it was.
     *in_use = called.result.in_use;
@@ -93,7 +93,7 @@ fn arrival(
 
 #[tactic(auto, unfolding(crate::specs::Calls::number, crate::specs::Calls::list_after))]
 fn give_up(list: &mut [u8], at: usize, in_use: usize, uptime: u64) -> Result<(), Refusal>
-    ensures number { replied_number result ≡ number list.old at in_use (give_up uptime) }
+    ensures number { result_number result ≡ number list.old at in_use (give_up uptime) }
     ensures list { list.new ≡ list_after list.old at in_use (give_up uptime) }
 {
     let mut records = [Client::fresh(); 8];
@@ -118,7 +118,7 @@ pub fn pongulvesz_list_ask(
     ensures list { list.new ≡ list_after list.old at in_use (ask buffer.old version clock token uptime) }
     ensures buffer { buffer.new ≡ buffer_after list.old at in_use (ask buffer.old version clock token uptime) }
 {
-    u32::from(replied_number(ask(list, at, in_use, buffer, version, clock, token, uptime)))
+    u32::from(result_number(ask(list, at, in_use, buffer, version, clock, token, uptime)))
 }
 
 // `associations::arrival`: the client's checks of a server reply (RFC 4330, section 5). The list tells whether an alternate server exists.
@@ -135,7 +135,7 @@ pub fn pongulvesz_list_arrival(
     ensures in_use { in_use.new ≡ in_use_after list.old at in_use.old (arrival answer.old t4 packet.now) }
     ensures answer { answer.new ≡ answer_after list.old at in_use.old (arrival answer.old t4 packet.now) }
 {
-    u32::from(replied_number(arrival(list, at, in_use, answer, t4, packet)))
+    u32::from(result_number(arrival(list, at, in_use, answer, t4, packet)))
 }
 
 // `associations::give_up`: the request to one of the servers has timed out (RFC 4330, section 10).
@@ -143,5 +143,5 @@ pub fn pongulvesz_list_give_up(list: &mut [u8], at: usize, in_use: usize, uptime
     ensures number { result ≡ number list.old at in_use (give_up uptime) }
     ensures list { list.new ≡ list_after list.old at in_use (give_up uptime) }
 {
-    u32::from(replied_number(give_up(list, at, in_use, uptime)))
+    u32::from(result_number(give_up(list, at, in_use, uptime)))
 }

@@ -3,7 +3,7 @@
 
 ghost use Rattle.std.specs.Prelude.{◌≡◌, false};
 ghost use Rattle.packet.specs.Packet.{read_answer};
-ghost use Rattle.firmware_fields.specs.Fields.{number_of};
+ghost use Rattle.refusals.specs.Given.{result_number};
 ghost use Rattle.firmware_packets.specs.Packets.{difference_of, difference_number, difference_after, measurement, measure, measurement_after, numbers_of, fields_after, too_wide, fields_in, write_answer, buffer_after};
 
 use packet::Fields;
@@ -35,7 +35,7 @@ pub fn pongulvesz_measure(
     half: &mut u32,
     delay: &mut i64,
 ) -> u32
-    ensures number { result ≡ number_of (measure t1 t2 t3 t4) }
+    ensures number { result ≡ result_number (measure t1 t2 t3 t4) }
     ensures measurement { measurement offset.new half.new delay.new ≡ measurement_after (measurement offset.old half.old delay.old) (measure t1 t2 t3 t4) }
 {
     match offset::measure(Timestamp(t1), Timestamp(t2), Timestamp(t3), Timestamp(t4)) {
@@ -76,7 +76,7 @@ fn numbers_of(fields: Fields) -> [u64; FIELDS]
 
 // `packet::read`. Refusals: 7.
 pub fn pongulvesz_read_fields(packet: &[u8], fields: &mut [u64; FIELDS]) -> u32
-    ensures number { result ≡ number_of (read_answer packet.now) }
+    ensures number { result ≡ result_number (read_answer packet.now) }
     ensures fields { fields.new ≡ fields_after fields.old (read_answer packet.now) }
 {
     match packet::read(packet) {
@@ -141,7 +141,7 @@ fn write_fields(fields: &[u64; FIELDS], buffer: &mut [u8]) -> Result<(), Refusal
 
 // `packet::write`. Refusals, in order: 1, 27, also for a number that is too wide for its field.
 pub fn pongulvesz_write_fields(fields: &[u64; FIELDS], buffer: &mut [u8]) -> u32
-    ensures number { result ≡ number_of (write_answer fields.now buffer.old) }
+    ensures number { result ≡ result_number (write_answer fields.now buffer.old) }
     ensures buffer { buffer.new ≡ buffer_after fields.now buffer.old }
 {
     match write_fields(fields, buffer) {

@@ -1,14 +1,8 @@
 -- What the calls of Unix time, the Time Protocol and the precision octet return and write for C, of what the inner call answers (docs/C.md).
 use Rattle.std.specs.Prelude.{ℕ, ℤ, Result, Ok, Err}
 use Rattle.refusals.specs.declared.Refusal.{Refusal}
-use Rattle.refusals.specs.Numbers.{number}
 use Rattle.timestamp.specs.declared.Timestamp.{Timestamp}
 use Rattle.unix_time.specs.declared.UnixTime.{UnixTime}
-
--- what a call returns
-abbrev pub number_of : {A : Type 0} → Result A Refusal → ℕ
-number_of (Err r) = number r
-number_of (Ok a) = 0
 
 -- what was lent is what the answer tells, or stays
 abbrev pub after : {A B : Type 0} → (A → B) → B → Result A Refusal → B

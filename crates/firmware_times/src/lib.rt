@@ -7,18 +7,19 @@ ghost use Rattle.timestamp.specs.Timestamp as timestamps;
 ghost use Rattle.unix_time.specs.UnixTime.{unix_time_of, timestamp_of};
 ghost use Rattle.time_protocol.specs.TimeProtocol.{write_answer, written, read_answer};
 ghost use Rattle.precision.specs.Precision.{precision_of};
-ghost use Rattle.firmware_times.specs.Times.{number_of, seconds_after, nanoseconds_after, timestamp_after, count_after, precision_after, unix_of};
+ghost use Rattle.refusals.specs.Given.{result_number};
+ghost use Rattle.firmware_times.specs.Times.{seconds_after, nanoseconds_after, timestamp_after, count_after, precision_after, unix_of};
 
 use timestamp::Timestamp;
 use unix_time::UnixTime;
 
 // `unix_time::unix_time_of_timestamp`. Refusals: 24.
 pub fn pongulvesz_unix_time(timestamp: u64, seconds: &mut i64, nanoseconds: &mut u32) -> u32
-    ensures number { result ≡ number_of (unix_time_of (timestamps.timestamp timestamp)) }
+    ensures number { result ≡ result_number (unix_time_of (timestamps.timestamp timestamp)) }
     ensures seconds { seconds.new ≡ seconds_after seconds.old (unix_time_of (timestamps.timestamp timestamp)) }
     ensures nanoseconds { nanoseconds.new ≡ nanoseconds_after nanoseconds.old (unix_time_of (timestamps.timestamp timestamp)) }
 {
-    match unix_time::unix_time_of_timestamp(Timestamp::from_units(timestamp)) {
+    match unix_time::unix_time_of_timestamp(Timestamp::from(timestamp)) {
         Ok(u) => {
             *seconds = u.seconds;
             *nanoseconds = u.nanoseconds;
@@ -30,7 +31,7 @@ pub fn pongulvesz_unix_time(timestamp: u64, seconds: &mut i64, nanoseconds: &mut
 
 // `unix_time::timestamp_of_unix_time`. Refusals, in order: 25, 26, 24.
 pub fn pongulvesz_timestamp_of_unix_time(seconds: i64, nanoseconds: u32, timestamp: &mut u64) -> u32
-    ensures number { result ≡ number_of (timestamp_of (unix_of seconds nanoseconds)) }
+    ensures number { result ≡ result_number (timestamp_of (unix_of seconds nanoseconds)) }
     ensures timestamp { timestamp.new ≡ timestamp_after timestamp.old (timestamp_of (unix_of seconds nanoseconds)) }
 {
     match unix_time::timestamp_of_unix_time(UnixTime {
@@ -47,7 +48,7 @@ pub fn pongulvesz_timestamp_of_unix_time(seconds: i64, nanoseconds: u32, timesta
 
 // `time_protocol::write`. Refusals: 45.
 pub fn pongulvesz_write_count(count: u32, buffer: &mut [u8]) -> u32
-    ensures number { result ≡ number_of (write_answer buffer.old) }
+    ensures number { result ≡ result_number (write_answer buffer.old) }
     ensures buffer { buffer.new ≡ written count buffer.old }
 {
     match time_protocol::write(count, buffer) {
@@ -58,7 +59,7 @@ pub fn pongulvesz_write_count(count: u32, buffer: &mut [u8]) -> u32
 
 // `time_protocol::read`. Refusals: 45.
 pub fn pongulvesz_read_count(octets: &[u8], count: &mut u32) -> u32
-    ensures number { result ≡ number_of (read_answer octets.now) }
+    ensures number { result ≡ result_number (read_answer octets.now) }
     ensures count { count.new ≡ count_after count.old (read_answer octets.now) }
 {
     match time_protocol::read(octets) {
@@ -72,7 +73,7 @@ pub fn pongulvesz_read_count(octets: &[u8], count: &mut u32) -> u32
 
 // `precision::precision_of_tick`. Refusals: 28.
 pub fn pongulvesz_precision(tick: u64, precision: &mut i32) -> u32
-    ensures number { result ≡ number_of (precision_of tick) }
+    ensures number { result ≡ result_number (precision_of tick) }
     ensures precision { precision.new ≡ precision_after precision.old (precision_of tick) }
 {
     match precision::precision_of_tick(tick) {

@@ -45,10 +45,10 @@ fn read_fields(p: &[u8]) -> Fields
         root_delay: twos_complement::signed32(slices::read_be32(p, 4)),
         root_dispersion: slices::read_be32(p, 8),
         identifier: slices::read_be32(p, 12),
-        reference: Timestamp::from_units(slices::read_be64(p, 16)),
-        originate: Timestamp::from_units(slices::read_be64(p, 24)),
-        receive: Timestamp::from_units(slices::read_be64(p, 32)),
-        transmit: Timestamp::from_units(slices::read_be64(p, 40)),
+        reference: Timestamp::from(slices::read_be64(p, 16)),
+        originate: Timestamp::from(slices::read_be64(p, 24)),
+        receive: Timestamp::from(slices::read_be64(p, 32)),
+        transmit: Timestamp::from(slices::read_be64(p, 40)),
     }
 }
 

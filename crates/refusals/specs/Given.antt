@@ -12,7 +12,12 @@ abbrev pub numbered : {A : Type 0} → Result A Refusal → Given A
 numbered (Err r) = refused (number r)
 numbered (Ok a) = answered a
 
--- the number of a refusal, and 0 of an answer
+-- the number that a call for C returns: that of a refusal, and 0 of an answer
+abbrev pub result_number : {A : Type 0} → Result A Refusal → ℕ
+result_number (Err r) = number r
+result_number (Ok a) = 0
+
+-- the same of what is given
 abbrev pub given_number : {A : Type 0} → Given A → ℕ
 given_number (refused n) = n
 given_number (answered a) = 0

@@ -11,4 +11,5 @@ ascending (n ∷ m ∷ ms) = ltb n m && ascending (m ∷ ms)
 
 pub record Laws : Type 0 where
   pub each_listed : (r : Refusal) → T (listed (number r))
+  pub each_own : (r s : Refusal) → number r ≡ number s → r ≡ s
   pub in_order : ascending numbers ≡ true

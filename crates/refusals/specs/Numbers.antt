@@ -38,7 +38,7 @@ number ArrivedBeforeSent = 15
 number ArrivedTooLate = 16
 -- T3 - T2 negative
 number AnsweredBeforeReceived = 17
--- d negative
+-- D negative
 number DelayNegative = 18
 -- P below Q
 number FirstBelowSecond = 19

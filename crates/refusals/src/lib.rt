@@ -3,6 +3,7 @@
 
 ghost use Rattle.std.specs.Prelude.{◌≡◌};
 ghost use Rattle.refusals.specs.Numbers.{number, numbers};
+ghost use Rattle.refusals.specs.Given.{result_number};
 
 use std::error::Error;
 use std::fmt;
@@ -157,6 +158,16 @@ impl Refusal {
         ensures { result ≡ number self }
     {
         self as u8
+    }
+}
+
+// The number that a call for C returns: that of a refusal, and 0 if the call is not refused.
+pub fn result_number(answer: Result<(), Refusal>) -> u8
+    ensures { result ≡ result_number answer }
+{
+    match answer {
+        Err(refusal) => refusal.number(),
+        Ok(()) => 0,
     }
 }
 

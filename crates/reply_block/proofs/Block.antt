@@ -13,7 +13,7 @@ use Rattle.packet.specs.Packet.{packet_length, packet_at}
 use Rattle.server_packet.specs.declared.Settings.{Settings}
 use Rattle.server.specs.Server.{replied, replied_buffer}
 use Rattle.server.proofs.Replies as server
-use Rattle.firmware.specs.Numbers.{replied_number}
+use Rattle.refusals.specs.Given.{result_number}
 use Rattle.reply_block.specs.Block.{block_count, receive_at, transmit_at, reply_at, number_at, block_replies, block_numbers}
 use Rattle.reply_block.specs.Laws.{BlockLaws}
 
@@ -29,7 +29,7 @@ module _ (s : Settings) (i : ℕ) (requests times replies : List ℕ) where
       put_back 48 replies (48 * i) (replied_buffer s (packet_at i requests) (receive_at i times) (transmit_at i times))
       (e ∙ rw (same_part 48 requests (48 * i)))
 
-  pub put_number : (numbers : List ℕ) {number : ℕ} → number ≡ replied_number (replied s (lent requests) (receive_at i times) (transmit_at i times) (lent replies))
+  pub put_number : (numbers : List ℕ) {number : ℕ} → number ≡ result_number (replied s (lent requests) (receive_at i times) (transmit_at i times) (lent replies))
       → set numbers i number ≡ set numbers i (number_at s i requests times replies)
   put_number numbers e = rw (e, same_part 48 requests (48 * i), same_part 48 replies (48 * i))
 

@@ -6,7 +6,7 @@ use Rattle.timestamp.specs.Timestamp.{timestamp}
 use Rattle.packet.specs.Packet.{packet_length, packet_count, packet_at}
 use Rattle.server_packet.specs.declared.Settings.{Settings}
 use Rattle.server.specs.Server.{replied, replied_buffer}
-use Rattle.firmware.specs.Numbers.{replied_number}
+use Rattle.refusals.specs.Given.{result_number}
 
 -- how many requests are answered: each takes 48 octets of the requests, two times, 48 octets of the replies and a number
 abbrev pub block_count : (requests times replies numbers : List ℕ) → ℕ
@@ -25,7 +25,7 @@ abbrev pub reply_at : Settings → ℕ → (requests times replies : List ℕ) �
 reply_at s k requests times replies = replied_buffer s (packet_at k requests) (receive_at k times) (transmit_at k times) (packet_at k replies)
 
 abbrev pub number_at : Settings → ℕ → (requests times replies : List ℕ) → ℕ
-number_at s k requests times replies = replied_number (replied s (packet_at k requests) (receive_at k times) (transmit_at k times) (packet_at k replies))
+number_at s k requests times replies = result_number (replied s (packet_at k requests) (receive_at k times) (transmit_at k times) (packet_at k replies))
 
 -- the replies once n requests are answered, and the numbers; what is past them stays
 unfoldable pub block_replies : Settings → ℕ → (requests times replies : List ℕ) → List ℕ

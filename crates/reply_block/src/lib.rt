@@ -5,10 +5,10 @@ ghost use Rattle.std.specs.Prelude.{◌≡◌, ◌+◌, ◌*◌, ◌/◌, ◌<�
 ghost use Rattle.timestamp.specs.Timestamp.{timestamp};
 ghost use Rattle.packet.specs.Packet.{packet_length};
 ghost use Rattle.server.specs.Server.{replied, replied_buffer};
-ghost use Rattle.firmware.specs.Numbers.{replied_number};
+ghost use Rattle.refusals.specs.Given.{result_number};
 ghost use Rattle.reply_block.specs.Block.{block_count, number_at, reply_at, block_replies, block_numbers};
 
-use firmware::numbers::replied_number;
+use refusals::result_number;
 use server_packet::Settings;
 use timestamp::Timestamp;
 
@@ -16,10 +16,10 @@ pub mod c_entry;
 
 // Replies to one request, and gives the number.
 fn reply_number(settings: Settings, request: &[u8], t2: u64, t3: u64, buffer: &mut [u8]) -> u8
-    ensures number { result ≡ replied_number (replied settings request.now (timestamp t2) (timestamp t3) buffer.old) }
+    ensures number { result ≡ result_number (replied settings request.now (timestamp t2) (timestamp t3) buffer.old) }
     ensures buffer { buffer.new ≡ replied_buffer settings request.now (timestamp t2) (timestamp t3) buffer.old }
 {
-    replied_number(server::reply(settings, request, Timestamp(t2), Timestamp(t3), buffer))
+    result_number(server::reply(settings, request, Timestamp(t2), Timestamp(t3), buffer))
 }
 
 // How many requests are answered, by the four lengths.
@@ -70,7 +70,7 @@ pub fn reply_block(
     ensures numbers { numbers.new ≡ block_numbers settings result requests.now times.now replies.old numbers.old }
 {
     let count = count(requests.len(), times.len(), replies.len(), numbers.len());
-    // By index: behind `chunks_exact_mut` and `zip` a proof knows the length of the replies alone, and not their octets.
+    // By index: the contracts of `chunks_exact_mut` and `zip` tell the length of the replies, and not their octets.
     for i in 0..count {
         reply_at(settings, i, requests, times, replies, numbers);
     }

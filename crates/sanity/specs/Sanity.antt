@@ -2,7 +2,6 @@
 -- and its four timestamps together after them.
 use Rattle.std.specs.Prelude.{ℕ, Bool, ◌||◌, eqb, leb, ltb, ℤ, pos}
 use Rattle.std.specs.Int.Signed.{le_z}
-use Rattle.refusals.specs.declared.Refusal.{Refusal}
 use Rattle.refusals.specs.declared.Refusal.TheVariants.{OwnClockZero, ServerUnsynchronised, StratumTooHigh, ServerTimestampZero, RootDelayOutOfRange, RootDispersionTooLarge}
 use Rattle.ordered_tests.specs.Tests.{Tests, ◌if◌else◌}
 use Rattle.timestamp.specs.declared.Timestamp.{Timestamp}

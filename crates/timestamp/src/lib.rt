@@ -17,6 +17,15 @@ pub struct Constants {
     pub limit_seconds: u64,
 }
 
+// A number of units is a timestamp.
+impl From<u64> for Timestamp {
+    ghost from_gives = { λ units t. t ≡ timestamp units };
+
+    fn from(units: u64) -> Timestamp {
+        Timestamp(units)
+    }
+}
+
 impl Timestamp {
     // All-zero: "not available".
     pub const ZERO: Timestamp = Timestamp(0);
@@ -37,12 +46,6 @@ impl Timestamp {
             limit: Timestamp::LIMIT,
             limit_seconds: Timestamp::LIMIT_SECONDS,
         }
-    }
-
-    pub fn from_units(units: u64) -> Timestamp
-        ensures { result ≡ timestamp units }
-    {
-        Timestamp(units)
     }
 
     pub fn from_seconds(seconds: u32, fraction: u32) -> Timestamp

@@ -24,6 +24,6 @@ impl Token {
     pub fn field(self) -> Timestamp
         ensures { result ≡ carried self }
     {
-        Timestamp::from_units(self.0)
+        Timestamp::from(self.0)
     }
 }

@@ -19,7 +19,7 @@ returns-in_err-told-clause-number c =
     let octets : AreOctets list = λ i. search rules in
     let (is, eight, holds) = c.in_ok-load.ensures in
     let fits = eq-eqb _ _ c.if-answer-ne-ANSWER.false in
-    let result = rw c.from_units.ensures at c.arrival-called.ensures.result in
+    let result = rw c.from.ensures at c.arrival-called.ensures.result in
     let told = c.in_err-told.ensures.answer ∙ told_is list is octets _ eight holds a.at a.in_use.now a.packet.now (timestamp a.t4) result in
     let handed_on = err_from_is_err_and c.from_residual-in_err-told.result c.from_residual-in_err-told.ensures.1 in
     rw (is, fits, handed_on.1, handed_on.2) (ap (λ z. number_of (said_arrival z)) told)
@@ -32,8 +32,8 @@ returns-in_err-told-clause-list c =
     let octets : AreOctets list = λ i. search rules in
     let (is, eight, holds) = c.in_ok-load.ensures in
     let fits = eq-eqb _ _ c.if-answer-ne-ANSWER.false in
-    let result = rw c.from_units.ensures at c.arrival-called.ensures.result in
-    let client = rw c.from_units.ensures at c.arrival-called.ensures.client in
+    let result = rw c.from.ensures at c.arrival-called.ensures.result in
+    let client = rw c.from.ensures at c.arrival-called.ensures.client in
     rw (is, fits) (c.end.ensures.list ∙ arrival_list list is octets _ eight holds a.at a.in_use.now a.packet.now (timestamp a.t4) result client)
 
 pub returns-in_err-told-clause-in_use : goal.returns-in_err-told-clause-in_use
@@ -44,7 +44,7 @@ returns-in_err-told-clause-in_use c =
     let octets : AreOctets list = λ i. search rules in
     let (is, eight, holds) = c.in_ok-load.ensures in
     let fits = eq-eqb _ _ c.if-answer-ne-ANSWER.false in
-    let result = rw c.from_units.ensures at c.arrival-called.ensures.result in
+    let result = rw c.from.ensures at c.arrival-called.ensures.result in
     rw (is, fits) (in_use_is list is octets _ eight holds a.at a.in_use.now a.packet.now (timestamp a.t4) result)
 
 pub returns-in_err-told-clause-answer : goal.returns-in_err-told-clause-answer
@@ -55,7 +55,7 @@ returns-in_err-told-clause-answer c =
     let octets : AreOctets list = λ i. search rules in
     let (is, eight, holds) = c.in_ok-load.ensures in
     let fits = eq-eqb _ _ c.if-answer-ne-ANSWER.false in
-    let result = rw c.from_units.ensures at c.arrival-called.ensures.result in
+    let result = rw c.from.ensures at c.arrival-called.ensures.result in
     let told = c.in_err-told.ensures.answer ∙ told_is list is octets _ eight holds a.at a.in_use.now a.packet.now (timestamp a.t4) result in
     rw (is, fits) (ap (λ z. answer_in a.answer.now (said_arrival z)) told)
 
@@ -67,7 +67,7 @@ returns-clause-number c =
     let octets : AreOctets list = λ i. search rules in
     let (is, eight, holds) = c.in_ok-load.ensures in
     let fits = eq-eqb _ _ c.if-answer-ne-ANSWER.false in
-    let result = rw c.from_units.ensures at c.arrival-called.ensures.result in
+    let result = rw c.from.ensures at c.arrival-called.ensures.result in
     let told = c.in_ok-told.ensures.answer ∙ told_is list is octets _ eight holds a.at a.in_use.now a.packet.now (timestamp a.t4) result in
     rw (is, fits) (taken c.in_ok-told.told ∙ ap (λ z. number_of (said_arrival z)) told)
 
@@ -79,8 +79,8 @@ returns-clause-list c =
     let octets : AreOctets list = λ i. search rules in
     let (is, eight, holds) = c.in_ok-load.ensures in
     let fits = eq-eqb _ _ c.if-answer-ne-ANSWER.false in
-    let result = rw c.from_units.ensures at c.arrival-called.ensures.result in
-    let client = rw c.from_units.ensures at c.arrival-called.ensures.client in
+    let result = rw c.from.ensures at c.arrival-called.ensures.result in
+    let client = rw c.from.ensures at c.arrival-called.ensures.client in
     rw (is, fits) (c.end.ensures.list ∙ arrival_list list is octets _ eight holds a.at a.in_use.now a.packet.now (timestamp a.t4) result client)
 
 pub returns-clause-in_use : goal.returns-clause-in_use
@@ -91,7 +91,7 @@ returns-clause-in_use c =
     let octets : AreOctets list = λ i. search rules in
     let (is, eight, holds) = c.in_ok-load.ensures in
     let fits = eq-eqb _ _ c.if-answer-ne-ANSWER.false in
-    let result = rw c.from_units.ensures at c.arrival-called.ensures.result in
+    let result = rw c.from.ensures at c.arrival-called.ensures.result in
     rw (is, fits) (in_use_is list is octets _ eight holds a.at a.in_use.now a.packet.now (timestamp a.t4) result)
 
 pub returns-clause-answer : goal.returns-clause-answer
@@ -102,7 +102,7 @@ returns-clause-answer c =
     let octets : AreOctets list = λ i. search rules in
     let (is, eight, holds) = c.in_ok-load.ensures in
     let fits = eq-eqb _ _ c.if-answer-ne-ANSWER.false in
-    let result = rw c.from_units.ensures at c.arrival-called.ensures.result in
+    let result = rw c.from.ensures at c.arrival-called.ensures.result in
     let told = c.in_ok-told.ensures.answer ∙ told_is list is octets _ eight holds a.at a.in_use.now a.packet.now (timestamp a.t4) result in
     let written = rw fits at c.write_answer.ensures in
     rw (is, fits) (written ∙ ap (λ z. answer_in a.answer.now (said_arrival z)) told)

@@ -15,7 +15,7 @@ returns-clause-number c =
     let a = c.args in
     let octets : AreOctets a.list.now = λ i. search rules in
     let (is, eight, holds) = c.in_ok-load.ensures in
-    let result = rw (c.narrow.ensures, c.from_units.ensures) at c.ask-called.ensures.result in
+    let result = rw (c.narrow.ensures, c.from.ensures) at c.ask-called.ensures.result in
     rw is
     (call_number a.list.now is octets _ eight holds a.at a.in_use (λ x. after_ask x (length a.buffer.now) (min a.version 255) (timestamp a.clock) (tokens.token a.token) a.uptime) result c.end.ensures.answer)
 
@@ -25,8 +25,8 @@ returns-clause-list c =
     let a = c.args in
     let octets : AreOctets a.list.now = λ i. search rules in
     let (is, eight, holds) = c.in_ok-load.ensures in
-    let result = rw (c.narrow.ensures, c.from_units.ensures) at c.ask-called.ensures.result in
-    let client = rw (c.narrow.ensures, c.from_units.ensures) at c.ask-called.ensures.client in
+    let result = rw (c.narrow.ensures, c.from.ensures) at c.ask-called.ensures.result in
+    let client = rw (c.narrow.ensures, c.from.ensures) at c.ask-called.ensures.client in
     rw is
     (c.end.ensures.list
     ∙ call_list a.list.now is octets _ eight holds a.at a.in_use (λ x. after_ask x (length a.buffer.now) (min a.version 255) (timestamp a.clock) (tokens.token a.token) a.uptime) result client)
@@ -37,6 +37,6 @@ returns-clause-buffer c =
     let a = c.args in
     let octets : AreOctets a.list.now = λ i. search rules in
     let (is, eight, holds) = c.in_ok-load.ensures in
-    let buffer = rw (c.narrow.ensures, c.from_units.ensures) at c.ask-called.ensures.buffer in
+    let buffer = rw (c.narrow.ensures, c.from.ensures) at c.ask-called.ensures.buffer in
     rw is
     (buffer ∙ same_buffer a.list.now is octets _ eight holds a.at a.in_use a.buffer.now (λ x. after_ask_buffer x a.buffer.now (min a.version 255) (timestamp a.clock) (tokens.token a.token) a.uptime))
