@@ -5,7 +5,7 @@ ghost use Rattle.association_rules.specs.InUse.{outside, use_after};
 use refusals::Refusal;
 use reply_checks::ArrivalAnswer;
 
-// The list is empty or has more than eight records, or one of the two numbers is not in it.
+// The list is empty or has more than eight records, or one of the two numbers is not in it. No record is looked at, so the count is handed in and not the list.
 #[tactic(auto, unfolding(crate::specs::InUse::outside))]
 pub(crate) fn outside(count: usize, at: usize, in_use: usize) -> bool
     ensures { result ≡ outside count at in_use }
@@ -13,7 +13,7 @@ pub(crate) fn outside(count: usize, at: usize, in_use: usize) -> bool
     !((1 <= count) & (count <= 8)) | !(at < count) | !(in_use < count)
 }
 
-// The number in use after an arrival for the record `at` was answered so. After a kiss of the record in use its alternate is in use, where there is one.
+// The number in use after an arrival for the record `at` with this answer. After a kiss of the record in use its alternate is in use, if it has one.
 pub fn use_after(
     answer: Result<ArrivalAnswer, Refusal>,
     alternate: Option<usize>,

@@ -1,4 +1,5 @@
 // A gateway's associations: the calls for one record of a lent list (docs/RULES.md, "Associations"). The rules stand in the crate `association_rules`.
+// The three calls begin alike. One function for that would take the client's call as a closure, with the rules of a list over any such call, and is no plainer.
 #![tactic(auto)]
 
 ghost use Rattle.std.specs.Prelude.{◌≡◌, length};

@@ -25,7 +25,7 @@ broadcast_message version poll t3 = record {
   transmit = t3;
 }
 
--- into a buffer of so many octets
+-- into a buffer of `room` octets
 unfoldable pub write_tests : Settings → (version poll : ℕ) → Timestamp → ℕ → Tests (Unit {0})
 write_tests s version poll t3 room =
     BufferTooShort if ltb room packet_length else

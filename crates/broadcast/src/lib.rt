@@ -24,7 +24,7 @@ fn message(version: u8, poll: u8, t3: Timestamp) -> Message
     }
 }
 
-// The tests in order, of a broadcast packet to be written into a buffer of so many octets.
+// The tests in order, of a broadcast packet to be written into a buffer of `room` octets.
 #[tactic(auto, unfolding(crate::specs::Broadcast::write_tests))]
 fn check_write(
     settings: Settings,

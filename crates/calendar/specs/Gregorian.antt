@@ -15,7 +15,7 @@ leap_days y = cond (leap_year y) 1 0
 unfoldable pub year_days : ℕ → ℕ
 year_days y = 365 + leap_days y
 
--- January to December, in a year with so many leap days
+-- January to December, in a year with this number of leap days
 abbrev pub month_lengths : ℕ → List ℕ
 month_lengths extra = 31 ∷ (28 + extra) ∷ 31 ∷ 30 ∷ 31 ∷ 30 ∷ 31 ∷ 31 ∷ 30 ∷ 31 ∷ 30 ∷ 31 ∷ []
 

@@ -18,7 +18,7 @@ pub(crate) fn leap_days(year: u64) -> u64
 }
 
 // The days from the start of the year 0 to the start of a year: of the years before it those that 4 divides have a leap day,
-// without those that 100 divides, with those that 400 divides. `div_ceil` is slower.
+// without those that 100 divides, with those that 400 divides. `div_ceil` takes more instructions.
 #[tactic(auto, using(crate::proofs::Years::years))]
 pub(crate) fn days_before_year(year: u64) -> u64
     requires { year < 2 ^ 33 }
@@ -29,7 +29,7 @@ pub(crate) fn days_before_year(year: u64) -> u64
 }
 
 // The year of the day n after the start of the year 0. 1461 days are four years with a leap day, a little over four mean years,
-// so between these days the estimate is the year or the one before it. A search of the years is slower.
+// so between these days the estimate is the year or the one before it. A search of the years takes more instructions.
 pub(crate) fn year_on(n: u64) -> u64
     requires from { 146000 ≤ n }
     requires to { n < 768600 }
@@ -82,7 +82,7 @@ pub(crate) fn days_to_month(year: u64, month: u64) -> u64
 }
 
 // The month of the day k after the start of a year: 367/12 days a month, as if February had 30 days.
-// A search of the table is slower.
+// A search of the table takes more instructions.
 pub(crate) fn month_on(extra: u64, k: u64) -> u64
     requires extra { extra < 2 }
     requires k { k < 365 + extra }

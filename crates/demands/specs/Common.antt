@@ -35,7 +35,7 @@ pub record BeginsField (t : List ℕ) : Type 0 where
   pub length_in_fours : stated_length t % 4 ≡ 0
   pub not_past_the_end : stated_length t ≤ length t
 
--- fields one after another, and behind the last of them so many octets as may stand there
+-- fields one after another, and behind the last of them a number of octets that may stand there
 pub data FieldsThen (Last : ℕ → Type 0) : List ℕ → Type 0 where
   last : {t : List ℕ} → Last (length t) → FieldsThen Last t
   field : {t : List ℕ} → BeginsField t → FieldsThen Last (drop (stated_length t) t) → FieldsThen Last t

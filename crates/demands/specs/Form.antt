@@ -18,7 +18,7 @@ pub record Shown : Type 0 where
   pub number : ℕ
   pub values : List ℤ
 
--- a refusal by n, of a call that has so many values to tell
+-- a refusal by n, of a call that has this count of values to tell
 abbrev pub refused_by : ℕ → ℕ → Shown
 refused_by count n = record { kind = refusal; number = n; values = replicate count (pos 0) }
 
@@ -30,10 +30,10 @@ telling values = record { kind = acceptance; number = 0; values = values }
 
 infixr 3 ◌unless◌then◌ ◌provided◌else◌
 pub data Rules (O : Type 0) : Type 1 where
-  ◌unless◌then◌ : Refusal → Type 0 → Rules O → Rules O  -- refused so unless the fact holds; then the rest
+  ◌unless◌then◌ : Refusal → Type 0 → Rules O → Rules O  -- refused by it unless the fact holds; else the rest
   ◌provided◌else◌ : O → Type 0 → Rules O → Rules O  -- this outcome provided the fact holds, and no later rule is looked at; else the rest
   does : O → Rules O  -- this outcome
-  refuses : Refusal → Rules O  -- refused so, whatever it is given
+  refuses : Refusal → Rules O  -- refused by it, whatever the call is given
 
 -- what the rules give: the first that applies decides
 abbrev pub Gives : {O : Type 0} → Rules O → Given O → Type 0

@@ -1,6 +1,5 @@
--- A call around another: what it is given is read first, and refused by itself or handed on to the inner call, whose outcome is then shown.
-use Rattle.std.specs.Prelude.{ℕ}
-use Rattle.std.specs.Prelude.{Result, Ok, Err}
+-- A call around another: it first reads what it is given. It refuses that, or hands it on to the inner call, whose outcome is then shown.
+use Rattle.std.specs.Prelude.{ℕ, Result, Ok, Err}
 use Rattle.refusals.specs.declared.Refusal.{Refusal}
 use Rattle.refusals.specs.Numbers.{number}
 use Rattle.demands.specs.Form.{Shown, Rules, ◌unless◌then◌, ◌provided◌else◌, does, refuses, Form, Implementation}

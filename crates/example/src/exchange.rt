@@ -42,6 +42,7 @@ impl Exchange {
         show(rt, "ask", called.answer.map(|()| Done))
     }
 
+    // `synchronised` is the flag of the settings.
     pub(crate) fn reply(&mut self, rt: &impl Print, synchronised: bool) -> io::Result<()> {
         reply(rt, &self.request, synchronised, &mut self.reply)
     }
@@ -60,7 +61,7 @@ impl Exchange {
     }
 }
 
-// The server's reply to a request.
+// The server's reply to a request. `synchronised` is the flag of the settings.
 pub(crate) fn reply(
     rt: &impl Print,
     request: &[u8],

@@ -28,7 +28,7 @@ pub record Legal (f : Field) : Type 0 where
   pub at_least_16 : 16 ≤ length_of f
   pub in_fours : length_of f % 4 ≡ 0
 
--- so many octets are an authenticator
+-- an authenticator has this number of octets
 pub data Authenticator : ℕ → Type 0 where
   of_4 : Authenticator 4
   of_20 : Authenticator 20

@@ -36,7 +36,7 @@ fn ends_fields(left: usize) -> bool
     matches!(left, 0 | 4 | 20 | 24)
 }
 
-// A field of n octets may begin where so many are left.
+// A field of n octets may begin where this number of octets is left.
 #[tactic(auto, unfolding(crate::specs::Reading::is_field_length))]
 fn is_field_length(left: usize, n: usize) -> bool
     ensures { result ≡ is_field_length left n }
@@ -61,7 +61,7 @@ fn octets_from(packet: &[u8], at: usize) -> &[u8]
     packet.get(at..).unwrap_or(&[])
 }
 
-// How many octets are left where no field begins any more.
+// The number of octets that are left where no field begins any more.
 #[tactic(auto, using(crate::proofs::Reader::field_within, crate::proofs::Reader::less_left, crate::proofs::Reader::rest_on, crate::proofs::Reader::rest_there))]
 pub fn octets_after_fields(packet: &[u8]) -> usize
     ensures { result ≡ length (after_fields packet.now) }

@@ -7,7 +7,7 @@ use Rattle.ordered_tests.specs.Tests.{Tests, ◌if◌else◌, otherwise, given, 
 use Rattle.extension.specs.Tail.{maximum_length, Field, octets_of}
 use Rattle.extension.specs.Reading.{after_fields, is_malformed}
 
--- a body of n octets has so many with the fewest zeros behind it that make a multiple of 4 and a field of at least 28
+-- the length of a body of n octets with the fewest zeros behind it that make a multiple of 4 and a field of at least 28
 unfoldable pub filled_length : ℕ → ℕ
 filled_length n = max 24 (next_multiple_of n 4)
 

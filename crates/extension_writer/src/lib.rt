@@ -17,7 +17,7 @@ fn filled_length(n: usize) -> usize
     n.next_multiple_of(4).max(24)
 }
 
-// A field with a body of n octets has no room behind a packet of so many, in a buffer of this capacity or in 1024 octets.
+// A field with a body of n octets has no room behind a packet of `size` octets, in a buffer of this capacity or in 1024 octets.
 #[tactic(auto, unfolding(crate::specs::Writer::no_room, crate::specs::Writer::filled_length))]
 fn no_room(capacity: usize, size: usize, n: usize) -> bool
     ensures { result ≡ no_room capacity size n }
@@ -47,7 +47,7 @@ fn new_length(buffer: &[u8], size: usize, n: usize) -> Result<usize, Refusal>
     Ok(size + (4 + filled_length(n)))
 }
 
-// Stores a body and its fill. One loop, since `copy_from_slice` and `fill` call memmove and memset, which a caller in C may not have.
+// Stores a body and its fill. `copy_from_slice` and `fill` would call memmove and memset, which a caller in C may not have.
 #[tactic(auto, using(crate::proofs::Fill::filled))]
 fn store_filled(octets: &mut [u8], body: &[u8])
     requires { length body.now ≤ length octets.old }

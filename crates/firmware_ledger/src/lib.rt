@@ -1,5 +1,5 @@
 // The ledger for C (docs/C.md): the record is its debt. A refused call returns its number and writes nothing.
-// Each call ends in a match: one function for the end, with a closure that stores, is no plainer.
+// Each call matches on the inner answer and stores it. One function for that would take a closure that stores, and is no plainer.
 #![tactic(auto)]
 
 ghost use Rattle.std.specs.Prelude.{◌≡◌};

@@ -88,7 +88,7 @@ pub fn pongulvesz_read_fields(packet: &[u8], fields: &mut [u64; FIELDS]) -> u32
     }
 }
 
-// Whether a number is over the 8 or 32 bits of its field. By `try_from` and `?` each test is a branch of its own, and a call takes an eighth more instructions.
+// Whether a number is over the 8 or 32 bits of its field. `try_from` and `?` make a branch of each test, and a call takes an eighth more instructions.
 fn too_wide(n: &[u64; FIELDS]) -> bool
     ensures { result ≡ too_wide n.now }
 {

@@ -4,6 +4,7 @@ use Rattle.hex_decode.specs.declared.Line.{Line}
 use Rattle.hex_decode.specs.declared.PushedLine.{PushedLine}
 use Rattle.hex_decode.specs.Lines.{digit_of, start, pushed, pushed_buffer, is_complete, has_begun}
 
+-- a line is octets or malformed: an Option in the words of the rules
 pub data Frame : Type 0 where
   octets : List ℕ → Frame
   malformed : Frame
@@ -12,13 +13,13 @@ abbrev pub before : ℕ → Frame → Frame
 before x (octets xs) = octets (x ∷ xs)
 before x malformed = malformed
 
--- two digits in front of a frame's octets; malformed where one is no digit
+-- two digits in front of a frame's octets; malformed if one of them is no digit
 abbrev pub pair : Option ℕ → Option ℕ → Frame → Frame
 pair (Some high) (Some low) frame = before (high * 16 + low) frame
 pair (Some high) None frame = malformed
 pair None low frame = malformed
 
--- the octets that a line's characters are; malformed where a character is no digit, or a digit is left over
+-- the octets that a line's characters are; malformed if a character is no digit, or if a digit is left over
 abbrev pub decode : List ℕ → Frame
 decode [] = octets []
 decode (a ∷ []) = malformed

@@ -23,6 +23,7 @@ refused line = record { count = line.count; rest = Malformed }
 abbrev pub paired : Line → List ℕ → Line
 paired line buffer = cond (leb (length buffer) line.count) (refused line) (record { count = line.count + 1; rest = Nothing })
 
+-- A line that begins at `start` has a digit below 16 here, which is its own remainder. The remainder lets the octet fit for any other line too.
 abbrev pub paired_buffer : Line → List ℕ → ℕ → ℕ → List ℕ
 paired_buffer line buffer high low = cond (leb (length buffer) line.count) buffer (set buffer line.count (high % 16 * 16 + low))
 

@@ -13,7 +13,7 @@ pub enum Rest {
     Nothing,
     // A digit that waits for its second one.
     Digit(u8),
-    // A character that is no digit, or an octet for which there was no room.
+    // A character was no digit, or an octet had no room.
     Malformed,
 }
 
@@ -31,8 +31,8 @@ pub struct PushedLine {
     pub at: usize,
 }
 
-// The value of a digit of either case. The letters of both cases end in the bits of 1 to 6. The test of the value comes last: where the first test decided,
-// it became branches that tell letters from the other digits, and the processor could not foresee them. So it was with `to_digit` too.
+// The value of a digit of either case. The letters of both cases end in the bits of 1 to 6. The value is tested last, so that the compiler makes no branch that
+// tells letters from the other digits, as it does of `to_digit`: a processor can't predict it.
 #[tactic(auto, unfolding(crate::specs::Lines::digit_of))]
 pub fn digit(c: u8) -> Option<u8>
     ensures value { result ≡ digit_of c }

@@ -1,5 +1,5 @@
 // The order of a number's octets, in code: the library's conversions, under `big_endian` and `octets`, which contracts cite.
-// A trait over the widths is longer: it takes the same bodies, and for each type its number as a ghost member.
+// No trait over the widths: its impls would have these bodies, and for each type its number as a ghost member besides.
 #![tactic(auto, unfolding(arithmetic::specs::Octets::octets))]
 
 ghost use Rattle.std.specs.Prelude.{◌≡◌, [], ◌∷◌, reverse, ◌+◌, ◌*◌, ◌^◌};

@@ -1,4 +1,5 @@
-// Tests in order: in code a table is `if test { return NUMBER; }` a test, in the table's order, and 0 at the end. specs/Tests.antt says what a table gives.
+// Tests in order. In code a table is a line `if test { return Err(REFUSAL); }` for each test, in the table's order, and `Ok` at the end. specs/Tests.antt says what a
+// table gives.
 #![tactic(auto)]
 
 ghost use Rattle.std.specs.Prelude.{◌≡◌};

@@ -1,7 +1,7 @@
 -- Uptimes in whole seconds, and the poll exponent (docs/RULES.md, "The client" and the numbers 6 and 20).
 use Rattle.std.specs.Prelude.{ℕ, suc, min, ◌+◌, Bool, ltb}
 
--- the uptime is below an earlier one, or less than so many seconds past it
+-- the uptime is below an earlier one, or less than this number of seconds past it
 unfoldable pub too_soon : ℕ → ℕ → ℕ → Bool
 too_soon since seconds uptime = ltb uptime (since + seconds)
 

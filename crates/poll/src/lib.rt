@@ -4,8 +4,8 @@
 ghost use Rattle.std.specs.Prelude.{◌≡◌, ◌^◌};
 ghost use Rattle.poll.specs.Poll.{too_soon, backed_off};
 
-// The uptime is below an earlier one, or less than so many seconds past it. No sum is formed, so nothing wraps. `checked_sub` would
-// cost two instructions more.
+// The uptime is below an earlier one, or less than `seconds` past it. No sum is formed, so nothing wraps. `checked_sub` takes two
+// instructions more.
 #[tactic(auto, unfolding(crate::specs::Poll::too_soon))]
 pub fn too_soon(since: u64, seconds: u64, uptime: u64) -> bool
     ensures { result ≡ too_soon since seconds uptime }

@@ -56,7 +56,8 @@ fn check(
     Ok(ArrivalAnswer::Accepted(measurement))
 }
 
-// The checks of a packet that came in at the clock reading T4; `waiting` says whether there is a request.
+// The checks of a packet that came in at the clock reading T4; `waiting` says whether there is a request. The request is no Option: the parts stand in the client's
+// record beside its phase, as the rules have them, and an Option would be put together for this call alone.
 #[tactic(auto, using(packet::proofs::Packet::read_refused, packet::proofs::Packet::read_fields), unfolding(crate::specs::Checks::checked_packet, crate::specs::Checks::waiting_tests, crate::specs::Checks::checked))]
 pub fn check_packet(
     waiting: bool,

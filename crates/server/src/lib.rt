@@ -83,7 +83,7 @@ pub fn reply(
     if buffer.len() < packet::LENGTH {
         return Err(Refusal::BufferTooShort);
     }
-    // `packet::read` in two steps: with one caller less the compiler inlines it in the client's calls.
+    // The two steps of `packet::read`: if the server called it too, the compiler would not inline it in the client's calls.
     if extension::is_malformed(request) {
         return Err(Refusal::PacketLengthWrong);
     }

@@ -9,7 +9,8 @@ use packet::Fields;
 use refusals::Refusal;
 use timestamp::Timestamp;
 
-// `leap` is LI; `identifier` and `reference` say from where and when the server's clock was last set.
+// `leap` is LI; `identifier` and `reference` say from where and when the server's clock was last set. `synchronised` is a flag and the others are no variant of it: 23
+// refuses them whatever it is.
 #[derive(Clone, Copy)]
 pub struct Settings {
     pub synchronised: bool,

@@ -1,4 +1,5 @@
-// Numbers in a slice of octets, read and stored.
+// Numbers in a slice of octets, read and stored: `octets_at` and `put` serve every width, and what is left of a width is its conversion. A trait over the widths
+// would hold the same conversions, and for each type its number as a ghost member besides.
 #![tactic(auto, using(crate::proofs::Numbers::numbers))]
 
 ghost use Rattle.std.specs.Prelude.{◌≡◌, ◌+◌, cond, leb, length, get_or, MatchOption};
@@ -13,7 +14,7 @@ pub fn octet_or_zero(p: &[u8], i: usize) -> u8
     p.get(i).copied().unwrap_or(0)
 }
 
-// The N octets from index at on, if there are so many.
+// The N octets from index at on, if the slice has them.
 #[tactic(auto, unfolding(crate::specs::Slices::read_at))]
 fn octets_at<const N: usize>(p: &[u8], at: usize) -> Option<&[u8; N]>
     ensures { MatchOption result (read_at N p.now at ≡ 0) (λ x. (length x.now ≡ N) × (read_at N p.now at ≡ big_endian x.now)) }
@@ -21,7 +22,7 @@ fn octets_at<const N: usize>(p: &[u8], at: usize) -> Option<&[u8; N]>
     p.get(at..)?.first_chunk()
 }
 
-// The number of the two octets from index at on, and 0 where there are not so many.
+// The number of the two octets from index at on, and 0 if the slice does not have them.
 pub fn read_be16(p: &[u8], at: usize) -> u16
     ensures { result ≡ read_at 2 p.now at }
 {
@@ -40,7 +41,7 @@ pub fn read_be64(p: &[u8], at: usize) -> u64
     octets_at(p, at).map_or(0, |x| u64::from_be_bytes(*x))
 }
 
-// Stores octets from index at on, and nothing where there is no room for them.
+// Stores octets from index at on, and nothing if there is no room for them.
 fn put<const N: usize>(b: &mut [u8], at: usize, octets: [u8; N])
     ensures { b.new ≡ cond (leb (at + N) (length b.old)) (sets b.old at octets.entry) b.old }
 {
@@ -49,7 +50,7 @@ fn put<const N: usize>(b: &mut [u8], at: usize, octets: [u8; N])
     }
 }
 
-// Stores the octets of x from index at on, and nothing where there is no room for them.
+// Stores the octets of x from index at on, and nothing if there is no room for them.
 #[tactic(auto, unfolding(crate::specs::Slices::write_at, arithmetic::specs::Octets::octets))]
 pub fn write_be32(b: &mut [u8], at: usize, x: u32)
     ensures { b.new ≡ write_at 4 b.old at x }

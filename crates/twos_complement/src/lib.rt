@@ -1,5 +1,5 @@
 // Two's complement, in code: the library's casts, under `signed` and `bits` at the width, which contracts cite.
-// A trait over the widths is longer: it takes the same six bodies, and for each type its width and its number as ghost members.
+// No trait over the widths: its impls would have these six bodies, and for each type its width and its number as ghost members besides.
 #![tactic(auto, using(crate::proofs::Signs::casts))]
 
 ghost use Rattle.std.specs.Prelude.{◌≡◌};

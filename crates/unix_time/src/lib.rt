@@ -48,7 +48,7 @@ pub fn unix_time_of_timestamp(t: Timestamp) -> Result<UnixTime, Refusal>
     })
 }
 
-// The fraction of nanoseconds, rounded up; `div_ceil` is slower.
+// The fraction of nanoseconds, rounded up. `div_ceil` takes more instructions.
 fn fraction_of(nanoseconds: u32) -> u32
     requires { nanoseconds < 10 ^ 9 }
     ensures { result ≡ fraction_above nanoseconds }
