@@ -1,9 +1,9 @@
 // Replays the lines of standard input through the client, and writes the answers to standard output as they come.
 #![tactic(auto)]
 
-ghost use Rattle.std.specs.Prelude.{◌≡◌, ◌≤◌, ◌<◌, [], length, IfOk, IfSome, OnOk, Ok, Some};
+ghost use Rattle.std.specs.Prelude.{◌≡◌, ◌<◌, [], length, IfOk, IfSome, OnOk, Ok, Some};
 ghost use Rattle.std.specs.Io.KnownBytes.{Appends, IsAtEnd};
-ghost use Rattle.replay_lines.specs.Feed.{longest_line, ran, ending};
+ghost use Rattle.replay_lines.specs.Feed.{ran, ending};
 ghost use Rattle.replay_lines.specs.Replay.{replay};
 ghost use Rattle.replay.specs.Feeding.{Answers, AnswersRead, ReplaysRead};
 
@@ -25,10 +25,9 @@ enum Reading {
 fn feed_all<W: Write>(
     replay: &mut Replay,
     input: &[u8],
-    output: &mut [u8],
+    output: &mut [u8; BLOCK],
     writer: &mut W,
 ) -> io::Result<()>
-    requires { longest_line ≤ length output.old }
     ensures { OnOk result (Answers replay.old input.now replay.new [] (W.contents writer.old) (W.contents writer.new)) }
 {
     let mut left = input;
@@ -46,11 +45,10 @@ fn feed_all<W: Write>(
 fn read_some<R: Read, W: Write>(
     replay: &mut Replay,
     block: &mut [u8],
-    output: &mut [u8],
+    output: &mut [u8; BLOCK],
     reader: &mut R,
     writer: &mut W,
 ) -> io::Result<Option<Reading>>
-    requires { longest_line ≤ length output.old }
     ensures answered { OnOk result (AnswersRead replay.old replay.new (R.remaining reader.old) (R.remaining reader.new) (W.contents writer.old) (W.contents writer.new)) }
     ensures end { IfOk result (λ ended. 0 < length block.old → ended ≡ Some Reading.AtEnd → IsAtEnd (R.remaining reader.new)) }
 {
@@ -69,11 +67,10 @@ fn read_some<R: Read, W: Write>(
 fn read_all<R: Read, W: Write>(
     replay: &mut Replay,
     block: &mut [u8],
-    output: &mut [u8],
+    output: &mut [u8; BLOCK],
     reader: &mut R,
     writer: &mut W,
 ) -> io::Result<Reading>
-    requires { longest_line ≤ length output.old }
     ensures answered { OnOk result (AnswersRead replay.old replay.new (R.remaining reader.old) (R.remaining reader.new) (W.contents writer.old) (W.contents writer.new)) }
     ensures end { IfOk result (λ reading. 0 < length block.old → reading ≡ Reading.AtEnd → IsAtEnd (R.remaining reader.new)) }
 {
