@@ -7,7 +7,7 @@ use lib.Dec.{T, eqb}
 use Rattle.std.specs.Prelude.{Option, None, Some}
 use Rattle.refusals.specs.declared.Refusal.{Refusal}
 use Rattle.refusals.specs.declared.Refusal.TheVariants.{BufferTooShort, VersionUnsupported, OwnClockZero, ClientStopped, AlreadyWaiting, AskedTooSoon, PacketLengthWrong, NotWaiting, OriginateMismatch, ReplyModeWrong, VersionMismatch, ServerUnsynchronised, StratumTooHigh, ServerTimestampZero, ArrivedBeforeSent, ArrivedTooLate, AnsweredBeforeReceived, DelayNegative, FirstBelowSecond, GaveUpTooSoon, RequestModeWrong, RequestVersionUnsupported, SettingsOutOfRange, TimestampZero, NoSuchDate, OutsideWindow, FieldTooLarge, TickOutOfRange, RecordNotLegal, EntryTooLarge, DebtTooLarge, LimitOutOfRange, RootDelayOutOfRange, RootDispersionTooLarge, NotInList, BroadcastModeWrong, BroadcastVersionUnsupported, BroadcastUnsynchronised, BroadcastStratumWrong, BroadcastTransmitZero, PollOutOfRange, TokenZero, NoOrder, FieldNotAdded, TimeLengthWrong, ImageNotLegal, LineMalformed}
-use Rattle.refusals.specs.Numbers.{number, numbers, member, listed}
+use Rattle.refusals.specs.Numbers.{number, member, listed}
 use Rattle.refusals.specs.Laws.{Laws}
 
 abbrev refusals : List Refusal
