@@ -1,5 +1,5 @@
 -- A list of servers for C: images of 32 octets one after another (docs/C.md, "Layouts").
-use Rattle.std.specs.Prelude.{ℕ, zero, suc, ◌+◌, ◌*◌, ◌/◌, ◌%◌, ◌<◌, ◌≡◌, Bool, true, cond, ◌&&◌, List, [], ◌∷◌, ◌++◌, eqb, ltb, length, get_or, take, drop}
+use Rattle.std.specs.Prelude.{ℕ, zero, suc, ◌+◌, ◌*◌, ◌/◌, ◌%◌, ◌<◌, ◌≡◌, Bool, true, cond, ◌&&◌, List, [], ◌∷◌, ◌++◌, eqb, leb, ltb, length, get_or, take, drop}
 use Rattle.arithmetic.specs.Octets.{part}
 use Rattle.client.specs.declared.Client.{Client}
 use Rattle.client.specs.Record.{fresh}
@@ -36,6 +36,10 @@ images_of (c ∷ rest) = image_of c ++ images_of rest
 -- the first eight of the first n records, each in its place
 abbrev pub HoldsFirst : List Client → ℕ → List ℕ → Type 0
 HoldsFirst records n list = (k : ℕ) → k < n → k < 8 → get_or records k fresh ≡ record_in (part (32 * k) 32 list)
+
+-- the records that the inner call is lent: none of more than eight, since 35 refuses an empty list too
+abbrev pub lent_of : List ℕ → List Client
+lent_of list = cond (leb (count list) 8) (records_in list) []
 
 -- the list with this record's image in the place of a number; past its end nothing is stored
 unfoldable pub with_record : List ℕ → ℕ → Client → List ℕ

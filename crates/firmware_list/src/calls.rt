@@ -1,30 +1,49 @@
 // The calls for one record of a list. Every call refuses by 46 before anything else. A refused call returns its number and writes nothing.
 ghost use Rattle.std.specs.Prelude.{◌≡◌};
 ghost use Rattle.ordered_tests.specs.Tests.{kept_of};
+ghost use Rattle.client.specs.Calls.{said_arrival};
+ghost use Rattle.association_rules.specs.Associations.{association};
+ghost use Rattle.firmware_layouts.specs.Answer.{with_answer};
 ghost use Rattle.refusals.specs.Given.{result_number};
+ghost use Rattle.firmware.specs.Numbers.{number_of};
 ghost use Rattle.firmware_list.specs.Images.{with_record};
 ghost use Rattle.firmware_list.specs.Calls.{ask, arrival, give_up, number, list_after, in_use_after, buffer_after, answer_after};
 
-use crate::images::{load, store};
-use associations_by_value::CalledByValue;
+use crate::images::{lend, store};
 use client::Client;
 use firmware::numbers::narrow;
-use firmware_layouts::{ANSWER, IMAGE, write_answer};
+use firmware_layouts::{ANSWER, write_answer};
 use refusals::{Refusal, result_number};
+use reply_checks::ArrivalAnswer;
 use timestamp::Timestamp;
 use token::Token;
 
-// The end of a call: the next record's image is put in its place, unless the call is refused.
-fn end<T>(list: &mut [u8], at: usize, called: CalledByValue<T>) -> Result<T, Refusal>
-    ensures answer { result ≡ called.result.answer }
-    ensures list { list.new ≡ kept_of called.result.answer list.old (with_record list.old at called.client) }
+// The end of a call: the image of the record that was called is put in its place, unless the call is refused.
+fn end<T>(
+    list: &mut [u8],
+    at: usize,
+    answer: Result<T, Refusal>,
+    lent: &[Client],
+) -> Result<T, Refusal>
+    ensures answer { result ≡ answer }
+    ensures list { list.new ≡ kept_of answer list.old (with_record list.old at (association lent.now at)) }
 {
-    let told = called.result.answer?;
-    store(list, at, called.client);
+    let told = answer?;
+    store(list, at, lent.get(at).copied().unwrap_or(Client::fresh()));
     Ok(told)
 }
 
-#[tactic(auto, unfolding(crate::specs::Calls::number, crate::specs::Calls::list_after, crate::specs::Calls::buffer_after))]
+// The end of an arrival: what is told is written, unless the call is refused.
+#[tactic(auto, using(firmware::proofs::Calls::kept))]
+fn end_arrival(answer: &mut [u8], told: Result<ArrivalAnswer, Refusal>) -> Result<(), Refusal>
+    ensures number { result_number result ≡ number_of (said_arrival told) }
+    ensures answer { answer.new ≡ with_answer answer.old (said_arrival told) }
+{
+    write_answer(answer, told?);
+    Ok(())
+}
+
+#[tactic(auto, using(crate::proofs::Lent::on_lent), unfolding(crate::specs::Calls::number, crate::specs::Calls::list_after, crate::specs::Calls::buffer_after))]
 fn ask(
     list: &mut [u8],
     at: usize,
@@ -40,11 +59,9 @@ fn ask(
     ensures buffer { buffer.new ≡ buffer_after list.old at in_use (ask buffer.old version clock token uptime) }
 {
     let mut records = [Client::fresh(); 8];
-    load(list, &mut records)?;
-    let count = list.len() / IMAGE;
-    let called = associations_by_value::ask(
-        records,
-        count,
+    let lent = lend(list, &mut records)?;
+    let called = associations::ask(
+        lent,
         at,
         in_use,
         buffer,
@@ -53,10 +70,10 @@ fn ask(
         Token(token),
         uptime,
     );
-    end(list, at, called)
+    end(list, at, called.answer, lent)
 }
 
-#[tactic(auto, unfolding(crate::specs::Calls::number, crate::specs::Calls::list_after, crate::specs::Calls::in_use_after, crate::specs::Calls::answer_after))]
+#[tactic(auto, using(crate::proofs::Lent::on_lent), unfolding(crate::specs::Calls::number, crate::specs::Calls::list_after, crate::specs::Calls::in_use_after, crate::specs::Calls::answer_after))]
 fn arrival(
     list: &mut [u8],
     at: usize,
@@ -74,33 +91,22 @@ fn arrival(
         return Err(Refusal::ImageNotLegal);
     }
     let mut records = [Client::fresh(); 8];
-    load(list, &mut records)?;
-    let count = list.len() / IMAGE;
-    let called = associations_by_value::arrival(
-        records,
-        count,
-        at,
-        *in_use,
-        packet,
-        Timestamp::from(t4),
-    );
+    let lent = lend(list, &mut records)?;
+    let called = associations::arrival(lent, at, *in_use, packet, Timestamp::from(t4));
     // A refusal hands the number in use back as it was.
-    *in_use = called.result.in_use;
-    let told = end(list, at, called)?;
-    write_answer(answer, told);
-    Ok(())
+    *in_use = called.in_use;
+    end_arrival(answer, end(list, at, called.answer, lent))
 }
 
-#[tactic(auto, unfolding(crate::specs::Calls::number, crate::specs::Calls::list_after))]
+#[tactic(auto, using(crate::proofs::Lent::on_lent), unfolding(crate::specs::Calls::number, crate::specs::Calls::list_after))]
 fn give_up(list: &mut [u8], at: usize, in_use: usize, uptime: u64) -> Result<(), Refusal>
     ensures number { result_number result ≡ number list.old at in_use (give_up uptime) }
     ensures list { list.new ≡ list_after list.old at in_use (give_up uptime) }
 {
     let mut records = [Client::fresh(); 8];
-    load(list, &mut records)?;
-    let count = list.len() / IMAGE;
-    let called = associations_by_value::give_up(records, count, at, in_use, uptime);
-    end(list, at, called)
+    let lent = lend(list, &mut records)?;
+    let called = associations::give_up(lent, at, in_use, uptime);
+    end(list, at, called.answer, lent)
 }
 
 // `associations::ask`: the client request of RFC 4330, section 5, to one of the servers.

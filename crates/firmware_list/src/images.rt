@@ -1,7 +1,7 @@
 // Images that stand one after another, read and written.
 ghost use Rattle.std.specs.Prelude.{◌≡◌, true, false, MatchResult, length};
 ghost use Rattle.refusals.specs.declared.Refusal.TheVariants.{ImageNotLegal};
-ghost use Rattle.firmware_list.specs.Images.{count, is_list, HoldsFirst, with_record};
+ghost use Rattle.firmware_list.specs.Images.{count, is_list, HoldsFirst, lent_of, with_record};
 
 use client::Client;
 use firmware::client_calls::record_of;
@@ -23,6 +23,18 @@ pub(crate) fn load(list: &[u8], records: &mut [Client; 8]) -> Result<(), Refusal
         }
     }
     Ok(())
+}
+
+// The records that the inner call is lent. A list of more than eight is lent as an empty one: 35 refuses both.
+#[tactic(auto, using(crate::proofs::Lent::all_lent, crate::proofs::Lent::none_lent))]
+pub(crate) fn lend<'a>(
+    list: &[u8],
+    records: &'a mut [Client; 8],
+) -> Result<&'a mut [Client], Refusal>
+    ensures { MatchResult result (λ lent. (is_list list.now ≡ true) × (lent.now ≡ lent_of list.now)) (λ r. (is_list list.now ≡ false) × (r ≡ ImageNotLegal)) }
+{
+    load(list, records)?;
+    Ok(records.get_mut(..list.len() / IMAGE).unwrap_or_default())
 }
 
 // Puts the image of a record in the place of a number; past the end of the list nothing is stored.
