@@ -9,7 +9,7 @@ use Rattle.arithmetic.specs.Octets.{big_endian, part}
 use Rattle.slices.specs.Slices.{read_at}
 use Rattle.slices.proofs.Slices.{number_room}
 
--- a number within the first octets, which m more of them follow
+-- a number of the first octets: it begins at index at, and m octets follow it
 in_first : (frame : List ℕ) (at m : ℕ) → at + (8 + m) ≤ length frame → read_at 8 (take (at + (8 + m)) frame) at ≡ big_endian (part at 8 frame)
 in_first frame at m long =
     let all = length-take-le (at + (8 + m)) frame long in
