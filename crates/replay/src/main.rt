@@ -1,7 +1,7 @@
 // Replays the lines of standard input through the client, and writes the answers to standard output as they come.
 #![tactic(auto)]
 
-ghost use Rattle.std.specs.Prelude.{◌≡◌, ◌<◌, [], length, IfOk, IfSome, OnOk, Ok, Some};
+ghost use Rattle.std.specs.Prelude.{◌≡◌, [], length, IfOk, IfSome, OnOk, Ok, Some};
 ghost use Rattle.std.specs.Io.KnownBytes.{Appends, IsAtEnd};
 ghost use Rattle.replay_lines.specs.Feed.{ran, ending};
 ghost use Rattle.replay_lines.specs.Replay.{replay};
@@ -44,13 +44,13 @@ fn feed_all<W: Write>(
 // struct of them would hold four borrows, and its contract would name the same four.
 fn read_some<R: Read, W: Write>(
     replay: &mut Replay,
-    block: &mut [u8],
+    block: &mut [u8; BLOCK],
     output: &mut [u8; BLOCK],
     reader: &mut R,
     writer: &mut W,
 ) -> io::Result<Option<Reading>>
     ensures answered { OnOk result (AnswersRead replay.old replay.new (R.remaining reader.old) (R.remaining reader.new) (W.contents writer.old) (W.contents writer.new)) }
-    ensures end { IfOk result (λ ended. 0 < length block.old → ended ≡ Some Reading.AtEnd → IsAtEnd (R.remaining reader.new)) }
+    ensures end { IfOk result (λ ended. ended ≡ Some Reading.AtEnd → IsAtEnd (R.remaining reader.new)) }
 {
     match reader.read(block) {
         Ok(0) => Ok(Some(Reading::AtEnd)),
@@ -66,13 +66,13 @@ fn read_some<R: Read, W: Write>(
 // longer would count as one whose read failed.
 fn read_all<R: Read, W: Write>(
     replay: &mut Replay,
-    block: &mut [u8],
+    block: &mut [u8; BLOCK],
     output: &mut [u8; BLOCK],
     reader: &mut R,
     writer: &mut W,
 ) -> io::Result<Reading>
     ensures answered { OnOk result (AnswersRead replay.old replay.new (R.remaining reader.old) (R.remaining reader.new) (W.contents writer.old) (W.contents writer.new)) }
-    ensures end { IfOk result (λ reading. 0 < length block.old → reading ≡ Reading.AtEnd → IsAtEnd (R.remaining reader.new)) }
+    ensures end { IfOk result (λ reading. reading ≡ Reading.AtEnd → IsAtEnd (R.remaining reader.new)) }
 {
     for _ in 0..u64::MAX {
         if let Some(reading) = read_some(replay, block, output, reader, writer)? {

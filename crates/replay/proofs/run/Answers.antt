@@ -1,4 +1,4 @@
-use Rattle.std.proofs.Common.{◌≡◌, length, ◌≤◌, arith, rules}
+use Rattle.std.proofs.Common.{◌≡◌, length, ◌≤◌, arith}
 use Rattle.replay.proofs.Feeding.{replayed, replayed_whole}
 use Rattle.replay.specs.declared.Reading.TheVariants.{AtEnd}
 use Rattle.replay_lines.specs.Feed.{longest_line}
@@ -14,7 +14,7 @@ done g c =
 
 pub returns-clause-whole : goal.returns-clause-whole
 returns-clause-whole g c = λ e. let h : c.in_ok-reading.reading ≡ AtEnd = cc in
-    replayed_whole _ _ _ _ (done g c) (c.in_ok-reading.ensures.end (search rules) h)
+    replayed_whole _ _ _ _ (done g c) (c.in_ok-reading.ensures.end h)
 
 pub returns-clause-answered : goal.returns-clause-answered
 returns-clause-answered g c = done g c
