@@ -1,5 +1,5 @@
 // Images that stand one after another, read and written.
-ghost use Rattle.std.specs.Prelude.{◌≡◌, true, false, MatchResult, length};
+ghost use Rattle.std.specs.Prelude.{◌≡◌, true, false, MatchResult, length, set};
 ghost use Rattle.refusals.specs.declared.Refusal.TheVariants.{ImageNotLegal};
 ghost use Rattle.firmware_list.specs.Images.{count, is_list, HoldsFirst, lent_of, with_record};
 
@@ -8,19 +8,27 @@ use firmware::client_calls::record_of;
 use firmware_layouts::{IMAGE, write_image};
 use refusals::Refusal;
 
-// Puts the records of the first eight images in their places. Each image is read once. The records are lent, since a Result of them would be copied.
-#[tactic(auto, using(crate::proofs::Lists::not_whole))]
+// Puts a record in the place of a number; past the eighth nothing is put.
+#[tactic(auto, using(crate::proofs::Lists::past_eighth))]
+fn put(records: &mut [Client; 8], at: usize, client: Client)
+    ensures { records.new ≡ set records.old at client }
+{
+    if at < 8 {
+        records[at] = client;
+    }
+}
+
+// Puts the records of the first eight images in their places, and refuses by 46 a list that is not legal. Each image is read once. The records are lent: a Result of
+// them would bring in memset, and of the C library the archive may call memcpy alone (docs/C.md).
+#[tactic(auto, using(crate::proofs::Lists::not_whole, crate::proofs::Lists::whole_is, crate::proofs::Lists::illegal_image))]
 pub(crate) fn load(list: &[u8], records: &mut [Client; 8]) -> Result<(), Refusal>
     ensures { MatchResult result (λ _. (is_list list.now ≡ true) × (length records.new ≡ 8) × HoldsFirst records.new (count list.now) list.now) (λ r. (is_list list.now ≡ false) × (r ≡ ImageNotLegal)) }
 {
     if list.len() % IMAGE != 0 {
         return Err(Refusal::ImageNotLegal);
     }
-    for i in 0..list.len() / IMAGE {
-        let client = record_of(&list[IMAGE * i..IMAGE * i + IMAGE])?;
-        if i < 8 {
-            records[i] = client;
-        }
+    for (i, image) in list.chunks_exact(IMAGE).enumerate() {
+        put(records, i, record_of(image)?);
     }
     Ok(())
 }

@@ -1,11 +1,15 @@
 -- The images before number i are legal, and the records of the first eight of them are in their places.
-use Rattle.std.proofs.Common.{◌≡◌, ◌-◌, ◌*◌, length, drop}
+use Rattle.std.proofs.Common.{◌≡◌, ◌*◌, length, drop}
+use Rattle.std.specs.Slice.Iter.{chunks_exact_rest, chunks_exact_size}
+use Rattle.std.specs.Iterator.Adapters.{enumerate_source, enumerate_count}
 use Rattle.firmware_list.specs.Images.{count, are_images, HoldsFirst}
 use Rattle.firmware_list.proofs.images.load.Given as goal
 
 abbrev pub invariant-loop-i : goal.invariant-loop-i
-invariant-loop-i l = record {
-  legal : are_images (count l.list) l.list ≡ are_images (count l.list - l.i) (drop (32 * l.i) l.list);
-  holds : HoldsFirst l.records l.i l.list;
+invariant-loop-i l = let i = enumerate_count l.i-iterator in let images = enumerate_source l.i-iterator in record {
+  size : chunks_exact_size images ≡ 32;
+  rest : chunks_exact_rest images ≡ drop (32 * i) l.list;
+  legal : are_images (count l.list) l.list ≡ are_images (count (chunks_exact_rest images)) (chunks_exact_rest images);
+  holds : HoldsFirst l.records i l.list;
   eight : length l.records ≡ 8;
 }
