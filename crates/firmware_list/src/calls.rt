@@ -33,9 +33,9 @@ fn end<T>(
     Ok(told)
 }
 
-// The end of an arrival: what is told is written, unless the call is refused.
+// Writes what is told of an arrival, unless the call is refused.
 #[tactic(auto, using(firmware::proofs::Calls::kept))]
-fn end_arrival(answer: &mut [u8], told: Result<ArrivalAnswer, Refusal>) -> Result<(), Refusal>
+fn write_told(answer: &mut [u8], told: Result<ArrivalAnswer, Refusal>) -> Result<(), Refusal>
     ensures number { result_number result ≡ number_of (said_arrival told) }
     ensures answer { answer.new ≡ with_answer answer.old (said_arrival told) }
 {
@@ -95,7 +95,7 @@ fn arrival(
     let called = associations::arrival(lent, at, *in_use, packet, Timestamp::from(t4));
     // A refusal hands the number in use back as it was.
     *in_use = called.in_use;
-    end_arrival(answer, end(list, at, called.answer, lent))
+    write_told(answer, end(list, at, called.answer, lent))
 }
 
 #[tactic(auto, using(crate::proofs::Lent::on_lent), unfolding(crate::specs::Calls::number, crate::specs::Calls::list_after))]

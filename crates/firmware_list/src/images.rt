@@ -8,7 +8,7 @@ use firmware::client_calls::record_of;
 use firmware_layouts::{IMAGE, write_image};
 use refusals::Refusal;
 
-// Puts a record in the place of a number; past the eighth nothing is put.
+// Puts a record in the place of a number, and nothing past the eighth.
 #[tactic(auto, using(crate::proofs::Lists::past_eighth))]
 fn put(records: &mut [Client; 8], at: usize, client: Client)
     ensures { records.new ≡ set records.old at client }
@@ -19,7 +19,7 @@ fn put(records: &mut [Client; 8], at: usize, client: Client)
 }
 
 // Puts the records of the first eight images in their places, and refuses by 46 a list that is not legal. Each image is read once. The records are lent: a Result of
-// them would bring in memset, and of the C library the archive may call memcpy alone (docs/C.md).
+// them would be copied by memset and memcpy, and the archive calls nothing of the C library (docs/C.md).
 #[tactic(auto, using(crate::proofs::Lists::not_whole, crate::proofs::Lists::whole_is, crate::proofs::Lists::illegal_image))]
 pub(crate) fn load(list: &[u8], records: &mut [Client; 8]) -> Result<(), Refusal>
     ensures { MatchResult result (λ _. (is_list list.now ≡ true) × (length records.new ≡ 8) × HoldsFirst records.new (count list.now) list.now) (λ r. (is_list list.now ≡ false) × (r ≡ ImageNotLegal)) }
