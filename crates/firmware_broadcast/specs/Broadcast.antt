@@ -1,6 +1,7 @@
 -- Broadcast for C (docs/C.md).
-use Rattle.std.specs.Prelude.{ℕ, min, List, ℤ, Result, Ok, Err}
+use Rattle.std.specs.Prelude.{ℕ, min, List, ℤ, Result}
 use Rattle.refusals.specs.declared.Refusal.{Refusal}
+use Rattle.refusals.specs.Given.{after}
 use Rattle.timestamp.specs.Timestamp.{timestamp}
 use Rattle.server_packet.specs.declared.Settings.{Settings}
 use Rattle.broadcast.specs.Broadcast.{broadcast_written, broadcast_buffer}
@@ -18,5 +19,4 @@ buffer_after s version poll t3 buffer = broadcast_buffer s (min version 255) (mi
 
 -- a refusal tells none
 abbrev pub difference_after : ℤ → Result ℤ Refusal → ℤ
-difference_after difference (Err r) = difference
-difference_after difference (Ok units) = units
+difference_after = after (λ units. units)

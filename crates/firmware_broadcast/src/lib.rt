@@ -10,7 +10,7 @@ ghost use Rattle.firmware_broadcast.specs.Broadcast.{write_answer, buffer_after,
 
 use firmware::numbers::narrow;
 use firmware::server_calls::settings_of;
-use refusals::result_number;
+use refusals::{result_number, tell};
 use timestamp::Timestamp;
 
 // `broadcast::write`. Refusals, in order: 1, 22, 23, 41, and when synchronised 14.
@@ -44,11 +44,5 @@ pub fn pongulvesz_broadcast_arrival(t4: u64, packet: &[u8], difference: &mut i64
     ensures number { result ≡ result_number (broadcast_arrived packet.now (timestamps.timestamp t4)) }
     ensures difference { difference.new ≡ difference_after difference.old (broadcast_arrived packet.now (timestamps.timestamp t4)) }
 {
-    match broadcast::arrival(packet, Timestamp::from(t4)) {
-        Ok(units) => {
-            *difference = units;
-            0
-        }
-        Err(refusal) => u32::from(refusal.number()),
-    }
+    tell(broadcast::arrival(packet, Timestamp::from(t4)), difference)
 }

@@ -3,7 +3,7 @@ use Rattle.std.specs.Prelude.{min, Result}
 use Rattle.refusals.specs.declared.Refusal.{Refusal}
 use Rattle.calendar.specs.declared.Date.{Date}
 use Rattle.calendar.specs.Dates.{date}
-use Rattle.firmware_times.specs.Times.{after}
+use Rattle.refusals.specs.Given.{after}
 
 -- ---- the date of a timestamp
 

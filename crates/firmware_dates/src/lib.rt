@@ -1,5 +1,4 @@
 // Dates for C (docs/C.md). A refused call returns its number and writes nothing.
-// Each call matches on the inner answer and stores it. One function for that would take a closure that stores, and is no plainer.
 #![tactic(auto)]
 
 ghost use Rattle.std.specs.Prelude.{◌≡◌};
@@ -12,9 +11,10 @@ ghost use Rattle.firmware_dates.specs.Dates.{date_after, narrowed};
 
 use calendar::Date;
 use firmware::numbers::narrow;
+use refusals::tell;
 use timestamp::Timestamp;
 
-// `calendar::date_of_timestamp`. Refusals: 24.
+// `calendar::date_of_timestamp`. Refusals: 24. C lends seven numbers, so each is stored here.
 pub fn pongulvesz_date(
     timestamp: u64,
     year: &mut u32,
@@ -82,11 +82,5 @@ pub fn pongulvesz_timestamp_of_date(
     ensures timestamp { timestamp.new ≡ timestamp_after timestamp.old (timestamp_of (narrowed (date year month day hour minute second fraction))) }
 {
     let d = narrowed_date(year, month, day, hour, minute, second, fraction);
-    match calendar::timestamp_of_date(d) {
-        Ok(t) => {
-            *timestamp = t.0;
-            0
-        }
-        Err(refusal) => u32::from(refusal.number()),
-    }
+    tell(calendar::timestamp_of_date(d).map(|t| t.0), timestamp)
 }

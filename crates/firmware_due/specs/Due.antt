@@ -1,6 +1,7 @@
 -- When a client's call on an image is due, for C (docs/C.md).
-use Rattle.std.specs.Prelude.{ℕ, not, List, Result, Ok, Err}
+use Rattle.std.specs.Prelude.{ℕ, not, List, Result}
 use Rattle.refusals.specs.declared.Refusal.{Refusal}
+use Rattle.refusals.specs.Given.{after}
 use Rattle.refusals.specs.declared.Refusal.TheVariants.{ImageNotLegal}
 use Rattle.ordered_tests.specs.Tests.{Tests, ◌if◌else◌, given}
 use Rattle.client.specs.declared.Client.{Client}
@@ -21,5 +22,4 @@ give_up_due image = given (on_image give_up_due_tests image)
 
 -- the lent number after the call
 abbrev pub uptime_after : ℕ → Result ℕ Refusal → ℕ
-uptime_after uptime (Err r) = uptime
-uptime_after uptime (Ok u) = u
+uptime_after = after (λ u. u)

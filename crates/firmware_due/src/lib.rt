@@ -7,21 +7,7 @@ ghost use Rattle.firmware_due.specs.Due.{ask_due, give_up_due, uptime_after};
 
 use due::{ask_due, give_up_due};
 use firmware::client_calls::record_of;
-use refusals::Refusal;
-
-// The end of both calls.
-fn tell(due: Result<u64, Refusal>, uptime: &mut u64) -> u32
-    ensures number { result ≡ result_number due }
-    ensures uptime { uptime.new ≡ uptime_after uptime.old due }
-{
-    match due {
-        Err(refusal) => u32::from(refusal.number()),
-        Ok(first) => {
-            *uptime = first;
-            0
-        }
-    }
-}
+use refusals::tell;
 
 // `due::ask_due`: the first uptime at which an ask is not refused by 6. Refusals, in order: 46, 4, 5, 6.
 #[tactic(auto, unfolding(crate::specs::Due::ask_due, due::specs::Due::ask_due))]

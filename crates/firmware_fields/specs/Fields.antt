@@ -1,6 +1,7 @@
 -- Extension fields for C (docs/C.md).
 use Rattle.std.specs.Prelude.{ℕ, List, Option, None, Some, Result, Ok, Err, ltb, length}
 use Rattle.refusals.specs.declared.Refusal.{Refusal}
+use Rattle.refusals.specs.Given.{after}
 use Rattle.refusals.specs.declared.Refusal.TheVariants.{FieldTooLarge}
 use Rattle.ordered_tests.specs.Tests.{Tests, ◌if◌else◌, given, kept}
 use Rattle.extension.specs.declared.Cursor.{Cursor}
@@ -10,8 +11,7 @@ use Rattle.extension_writer.specs.Writer.{add_tests, with_field}
 -- ---- where the first field would begin
 
 abbrev pub cursor_after : ℕ → Result Cursor Refusal → ℕ
-cursor_after cursor (Err r) = cursor
-cursor_after cursor (Ok c) = c.at
+cursor_after = after (λ c. c.at)
 
 -- ---- what stands at the cursor
 
@@ -45,8 +45,7 @@ add_answer buffer size field_type body = given (field_tests buffer size field_ty
 
 -- the packet's length and the buffer after it
 abbrev pub size_after : ℕ → Result ℕ Refusal → ℕ
-size_after size (Err r) = size
-size_after size (Ok new) = new
+size_after = after (λ new. new)
 
 abbrev pub buffer_after : List ℕ → (size field_type : ℕ) → List ℕ → List ℕ
 buffer_after buffer size field_type body = kept (field_tests buffer size field_type body) buffer (with_field buffer size field_type body)

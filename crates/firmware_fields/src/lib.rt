@@ -8,20 +8,14 @@ ghost use Rattle.refusals.specs.Given.{result_number};
 ghost use Rattle.firmware_fields.specs.Fields.{cursor_after, numbers, numbers_after, add_answer, size_after, buffer_after};
 
 use extension::Cursor;
-use refusals::Refusal;
+use refusals::{Refusal, tell};
 
 // `extension::begin`. Refusals: 7.
 pub fn pongulvesz_fields(packet: &[u8], cursor: &mut usize) -> u32
     ensures number { result ≡ result_number (reader.begun packet.now) }
     ensures cursor { cursor.new ≡ cursor_after cursor.old (reader.begun packet.now) }
 {
-    match extension::begin(packet) {
-        Ok(first) => {
-            *cursor = first.at;
-            0
-        }
-        Err(malformed) => u32::from(malformed.number()),
-    }
+    tell(extension::begin(packet).map(|first| first.at), cursor)
 }
 
 // `extension::next`. Refusals: 7.
@@ -70,11 +64,5 @@ pub fn pongulvesz_add_field(
         return u32::from(Refusal::FieldTooLarge.number());
     };
     let length = *size;
-    match extension_writer::add(buffer, length, field_type, body) {
-        Ok(new) => {
-            *size = new;
-            0
-        }
-        Err(refusal) => u32::from(refusal.number()),
-    }
+    tell(extension_writer::add(buffer, length, field_type, body), size)
 }

@@ -1,6 +1,7 @@
 -- The ledger for C (docs/C.md). The debt after a call is that of the record which the inner call hands back: after a refusal the same.
 use Rattle.std.specs.Prelude.{ℕ, min, ℤ, Result, Ok, Err}
 use Rattle.refusals.specs.declared.Refusal.{Refusal}
+use Rattle.refusals.specs.Given.{after}
 use Rattle.ledger.specs.declared.Called.{Called}
 use Rattle.ledger.specs.Ledger.{entered, ticked}
 
@@ -11,7 +12,6 @@ entry_of debt offset half = entered (record { debt = debt }) offset (min half 25
 abbrev pub tick_of : (debt : ℤ) (limit : ℕ) → Called ℤ
 tick_of debt limit = ticked (record { debt = debt }) limit
 
--- what was paid is told where nothing is refused
+-- what was paid is told unless the call is refused
 abbrev pub paid_after : ℤ → Result ℤ Refusal → ℤ
-paid_after paid (Err r) = paid
-paid_after paid (Ok units) = units
+paid_after = after (λ units. units)

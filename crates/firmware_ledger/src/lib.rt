@@ -1,5 +1,4 @@
 // The ledger for C (docs/C.md): the record is its debt. A refused call returns its number and writes nothing.
-// Each call matches on the inner answer and stores it. One function for that would take a closure that stores, and is no plainer.
 #![tactic(auto)]
 
 ghost use Rattle.std.specs.Prelude.{◌≡◌};
@@ -8,6 +7,7 @@ ghost use Rattle.firmware_ledger.specs.Ledger.{entry_of, tick_of, paid_after};
 
 use firmware::numbers::narrow;
 use ledger::Ledger;
+use refusals::{result_number, tell};
 
 // `Ledger::entry`. Refusals, in order: 29, 30, 31.
 pub fn pongulvesz_entry(debt: &mut i64, offset: i64, half: u32) -> u32
@@ -17,10 +17,7 @@ pub fn pongulvesz_entry(debt: &mut i64, offset: i64, half: u32) -> u32
     let owed = *debt;
     let entered = Ledger { debt: owed }.entry(offset, narrow(half));
     *debt = entered.ledger.debt;
-    match entered.answer {
-        Ok(()) => 0,
-        Err(refusal) => u32::from(refusal.number()),
-    }
+    u32::from(result_number(entered.answer))
 }
 
 // `Ledger::tick`. Refusals, in order: 29, 32.
@@ -32,11 +29,5 @@ pub fn pongulvesz_tick(debt: &mut i64, limit: u64, paid: &mut i64) -> u32
     let owed = *debt;
     let ticked = Ledger { debt: owed }.tick(limit);
     *debt = ticked.ledger.debt;
-    match ticked.answer {
-        Ok(units) => {
-            *paid = units;
-            0
-        }
-        Err(refusal) => u32::from(refusal.number()),
-    }
+    tell(ticked.answer, paid)
 }

@@ -1,9 +1,9 @@
 -- What the calls for C on timestamps and on a packet's fields return and write, given what the inner call answers (docs/C.md).
-use Rattle.std.specs.Prelude.{ℕ, Bool, ◌||◌, List, [], ◌∷◌, ltb, ℤ, get_or, Option, None, Some, Result, Ok, Err}
+use Rattle.std.specs.Prelude.{ℕ, Bool, ◌||◌, List, [], ◌∷◌, ltb, ℤ, get_or, Option, Result, ok_or}
 use Rattle.arithmetic.specs.TwosComplement.{signed, bits}
 use Rattle.refusals.specs.declared.Refusal.{Refusal}
+use Rattle.refusals.specs.Given.{result_number, after}
 use Rattle.refusals.specs.declared.Refusal.TheVariants.{NoOrder, BufferTooShort, FieldTooLarge}
-use Rattle.refusals.specs.Numbers.{number}
 use Rattle.ordered_tests.specs.Tests.{Tests, ◌if◌else◌, given, kept}
 use Rattle.timestamp.specs.Timestamp.{timestamp, ◌since◌, ordered}
 use Rattle.offset.specs.declared.Measurement.{Measurement}
@@ -17,12 +17,10 @@ abbrev pub difference_of : (x y : ℕ) → Option ℤ
 difference_of x y = ordered (timestamp x since timestamp y)
 
 abbrev pub difference_number : Option ℤ → ℕ
-difference_number None = number NoOrder
-difference_number (Some units) = 0
+difference_number d = result_number (ok_or d NoOrder)
 
 abbrev pub difference_after : ℤ → Option ℤ → ℤ
-difference_after lent None = lent
-difference_after lent (Some units) = units
+difference_after lent d = after (λ units. units) lent (ok_or d NoOrder)
 
 -- ---- four timestamps
 
@@ -34,8 +32,7 @@ abbrev pub measurement : ℤ → ℕ → ℤ → Measurement
 measurement offset half delay = record { offset = offset; half = half; delay = delay }
 
 abbrev pub measurement_after : Measurement → Result Measurement Refusal → Measurement
-measurement_after lent (Err r) = lent
-measurement_after lent (Ok m) = m
+measurement_after = after (λ m. m)
 
 -- ---- the fields of a packet, thirteen numbers
 
@@ -46,8 +43,7 @@ numbers_of f =
     ∷ f.reference.0 ∷ f.originate.0 ∷ f.receive.0 ∷ f.transmit.0 ∷ []
 
 abbrev pub fields_after : List ℕ → Result Fields Refusal → List ℕ
-fields_after lent (Err r) = lent
-fields_after lent (Ok f) = numbers_of f
+fields_after = after numbers_of
 
 abbrev pub at : ℕ → List ℕ → ℕ
 at i n = get_or n i 0

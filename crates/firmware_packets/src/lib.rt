@@ -7,7 +7,7 @@ ghost use Rattle.refusals.specs.Given.{result_number};
 ghost use Rattle.firmware_packets.specs.Packets.{difference_of, difference_number, difference_after, measurement, measure, measurement_after, numbers_of, fields_after, too_wide, fields_in, write_answer, buffer_after};
 
 use packet::Fields;
-use refusals::Refusal;
+use refusals::{Refusal, result_number, tell};
 use timestamp::Timestamp;
 use twos_complement::{bits8, bits32, signed8, signed32};
 
@@ -16,16 +16,11 @@ pub fn pongulvesz_difference(x: u64, y: u64, difference: &mut i64) -> u32
     ensures number { result ≡ difference_number (difference_of x y) }
     ensures difference { difference.new ≡ difference_after difference.old (difference_of x y) }
 {
-    match Timestamp(x).minus(Timestamp(y)) {
-        Some(units) => {
-            *difference = units;
-            0
-        }
-        None => u32::from(Refusal::NoOrder.number()),
-    }
+    let units = Timestamp::from(x).minus(Timestamp::from(y));
+    tell(units.ok_or(Refusal::NoOrder), difference)
 }
 
-// `offset::measure`. Refusals, in order: 43, 15, 16, 43, 17, 18, 43, 43, 19.
+// `offset::measure`. Refusals, in order: 43, 15, 16, 43, 17, 18, 43, 43, 19. C lends three numbers, so each is stored here.
 pub fn pongulvesz_measure(
     t1: u64,
     t2: u64,
@@ -38,7 +33,7 @@ pub fn pongulvesz_measure(
     ensures number { result ≡ result_number (measure t1 t2 t3 t4) }
     ensures measurement { measurement offset.new half.new delay.new ≡ measurement_after (measurement offset.old half.old delay.old) (measure t1 t2 t3 t4) }
 {
-    match offset::measure(Timestamp(t1), Timestamp(t2), Timestamp(t3), Timestamp(t4)) {
+    match offset::measure(t1.into(), t2.into(), t3.into(), t4.into()) {
         Ok(measured) => {
             *offset = measured.offset;
             *half = u32::from(measured.half);
@@ -79,13 +74,7 @@ pub fn pongulvesz_read_fields(packet: &[u8], fields: &mut [u64; FIELDS]) -> u32
     ensures number { result ≡ result_number (read_answer packet.now) }
     ensures fields { fields.new ≡ fields_after fields.old (read_answer packet.now) }
 {
-    match packet::read(packet) {
-        Ok(read) => {
-            *fields = numbers_of(read);
-            0
-        }
-        Err(refusal) => u32::from(refusal.number()),
-    }
+    tell(packet::read(packet).map(numbers_of), fields)
 }
 
 // Whether a number is over the 8 or 32 bits of its field. `try_from` and `?` make a branch of each test, and a call takes an eighth more instructions.
@@ -119,10 +108,10 @@ fn fields_in(n: &[u64; FIELDS]) -> Fields
         root_delay: signed32(n[6] as u32),
         root_dispersion: n[7] as u32,
         identifier: n[8] as u32,
-        reference: Timestamp(n[9]),
-        originate: Timestamp(n[10]),
-        receive: Timestamp(n[11]),
-        transmit: Timestamp(n[12]),
+        reference: Timestamp::from(n[9]),
+        originate: Timestamp::from(n[10]),
+        receive: Timestamp::from(n[11]),
+        transmit: Timestamp::from(n[12]),
     }
 }
 
@@ -144,8 +133,5 @@ pub fn pongulvesz_write_fields(fields: &[u64; FIELDS], buffer: &mut [u8]) -> u32
     ensures number { result ≡ result_number (write_answer fields.now buffer.old) }
     ensures buffer { buffer.new ≡ buffer_after fields.now buffer.old }
 {
-    match write_fields(fields, buffer) {
-        Ok(()) => 0,
-        Err(refusal) => u32::from(refusal.number()),
-    }
+    u32::from(result_number(write_fields(fields, buffer)))
 }

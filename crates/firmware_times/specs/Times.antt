@@ -1,13 +1,9 @@
 -- What the calls of Unix time, the Time Protocol and the precision octet return and write for C, of what the inner call answers (docs/C.md).
-use Rattle.std.specs.Prelude.{ℕ, ℤ, Result, Ok, Err}
+use Rattle.std.specs.Prelude.{ℕ, ℤ, Result}
 use Rattle.refusals.specs.declared.Refusal.{Refusal}
+use Rattle.refusals.specs.Given.{after}
 use Rattle.timestamp.specs.declared.Timestamp.{Timestamp}
 use Rattle.unix_time.specs.declared.UnixTime.{UnixTime}
-
--- what was lent is what the answer tells, or stays
-abbrev pub after : {A B : Type 0} → (A → B) → B → Result A Refusal → B
-after told lent (Err r) = lent
-after told lent (Ok a) = told a
 
 -- ---- the Unix time of a timestamp
 

@@ -1,5 +1,4 @@
 // Unix time, the Time Protocol and the precision octet for C (docs/C.md). A refused call returns its number and writes nothing.
-// Each call matches on the inner answer and stores it. One function for that would take a closure that stores, and is no plainer.
 #![tactic(auto)]
 
 ghost use Rattle.std.specs.Prelude.{◌≡◌};
@@ -10,10 +9,11 @@ ghost use Rattle.precision.specs.Precision.{precision_of};
 ghost use Rattle.refusals.specs.Given.{result_number};
 ghost use Rattle.firmware_times.specs.Times.{seconds_after, nanoseconds_after, timestamp_after, count_after, precision_after, unix_of};
 
+use refusals::{result_number, tell};
 use timestamp::Timestamp;
 use unix_time::UnixTime;
 
-// `unix_time::unix_time_of_timestamp`. Refusals: 24.
+// `unix_time::unix_time_of_timestamp`. Refusals: 24. C lends two numbers, so each is stored here.
 pub fn pongulvesz_unix_time(timestamp: u64, seconds: &mut i64, nanoseconds: &mut u32) -> u32
     ensures number { result ≡ result_number (unix_time_of (timestamps.timestamp timestamp)) }
     ensures seconds { seconds.new ≡ seconds_after seconds.old (unix_time_of (timestamps.timestamp timestamp)) }
@@ -34,16 +34,11 @@ pub fn pongulvesz_timestamp_of_unix_time(seconds: i64, nanoseconds: u32, timesta
     ensures number { result ≡ result_number (timestamp_of (unix_of seconds nanoseconds)) }
     ensures timestamp { timestamp.new ≡ timestamp_after timestamp.old (timestamp_of (unix_of seconds nanoseconds)) }
 {
-    match unix_time::timestamp_of_unix_time(UnixTime {
+    let answer = unix_time::timestamp_of_unix_time(UnixTime {
         seconds,
         nanoseconds,
-    }) {
-        Ok(t) => {
-            *timestamp = t.0;
-            0
-        }
-        Err(refusal) => u32::from(refusal.number()),
-    }
+    });
+    tell(answer.map(|t| t.0), timestamp)
 }
 
 // `time_protocol::write`. Refusals: 45.
@@ -51,10 +46,7 @@ pub fn pongulvesz_write_count(count: u32, buffer: &mut [u8]) -> u32
     ensures number { result ≡ result_number (write_answer buffer.old) }
     ensures buffer { buffer.new ≡ written count buffer.old }
 {
-    match time_protocol::write(count, buffer) {
-        Ok(()) => 0,
-        Err(refusal) => u32::from(refusal.number()),
-    }
+    u32::from(result_number(time_protocol::write(count, buffer)))
 }
 
 // `time_protocol::read`. Refusals: 45.
@@ -62,13 +54,7 @@ pub fn pongulvesz_read_count(octets: &[u8], count: &mut u32) -> u32
     ensures number { result ≡ result_number (read_answer octets.now) }
     ensures count { count.new ≡ count_after count.old (read_answer octets.now) }
 {
-    match time_protocol::read(octets) {
-        Ok(n) => {
-            *count = n;
-            0
-        }
-        Err(refusal) => u32::from(refusal.number()),
-    }
+    tell(time_protocol::read(octets), count)
 }
 
 // `precision::precision_of_tick`. Refusals: 28.
@@ -76,11 +62,5 @@ pub fn pongulvesz_precision(tick: u64, precision: &mut i32) -> u32
     ensures number { result ≡ result_number (precision_of tick) }
     ensures precision { precision.new ≡ precision_after precision.old (precision_of tick) }
 {
-    match precision::precision_of_tick(tick) {
-        Ok(exponent) => {
-            *precision = i32::from(exponent);
-            0
-        }
-        Err(refusal) => u32::from(refusal.number()),
-    }
+    tell(precision::precision_of_tick(tick).map(i32::from), precision)
 }

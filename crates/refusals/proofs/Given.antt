@@ -11,6 +11,3 @@ module _ {A : Type 0} where
   answered_ok (Ok b) e = cc
   answered_ok (Err r) e = cc
 
-  pub refused_err : (o : Result A Refusal) {n : ℕ} → numbered o ≡ refused n → (r : Refusal) × (o ≡ Err r) × (number r ≡ n)
-  refused_err (Ok b) e = cc
-  refused_err (Err r) e = (r, refl, cc)

@@ -17,7 +17,12 @@ abbrev pub result_number : {A : Type 0} → Result A Refusal → ℕ
 result_number (Err r) = number r
 result_number (Ok a) = 0
 
--- the same of what is given
+-- what was lent to a call, after it: what is told of the answer, and after a refusal the same
+abbrev pub after : {A B : Type 0} → (A → B) → B → Result A Refusal → B
+after told lent (Err r) = lent
+after told lent (Ok a) = told a
+
+-- the number of what is given
 abbrev pub given_number : {A : Type 0} → Given A → ℕ
 given_number (refused n) = n
 given_number (answered a) = 0

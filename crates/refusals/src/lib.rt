@@ -3,7 +3,7 @@
 
 ghost use Rattle.std.specs.Prelude.{◌≡◌};
 ghost use Rattle.refusals.specs.Numbers.{number, numbers};
-ghost use Rattle.refusals.specs.Given.{result_number};
+ghost use Rattle.refusals.specs.Given.{result_number, after};
 
 use std::error::Error;
 use std::fmt;
@@ -168,6 +168,20 @@ pub fn result_number(answer: Result<(), Refusal>) -> u8
     match answer {
         Err(refusal) => refusal.number(),
         Ok(()) => 0,
+    }
+}
+
+// The end of a call for C that tells one thing: stores what is told, unless the call is refused, and returns the number.
+pub fn tell<T: Copy + Drop>(answer: Result<T, Refusal>, lent: &mut T) -> u32
+    ensures number { result ≡ result_number answer }
+    ensures lent { lent.new ≡ after (λ told. told) lent.old answer }
+{
+    match answer {
+        Ok(told) => {
+            *lent = told;
+            0
+        }
+        Err(refusal) => u32::from(refusal.number()),
     }
 }
 

@@ -19,7 +19,7 @@ fn reply_number(settings: Settings, request: &[u8], t2: u64, t3: u64, buffer: &m
     ensures number { result ≡ result_number (replied settings request.now (timestamp t2) (timestamp t3) buffer.old) }
     ensures buffer { buffer.new ≡ replied_buffer settings request.now (timestamp t2) (timestamp t3) buffer.old }
 {
-    result_number(server::reply(settings, request, Timestamp(t2), Timestamp(t3), buffer))
+    result_number(server::reply(settings, request, t2.into(), t3.into(), buffer))
 }
 
 // How many requests are answered, by the four lengths.
@@ -56,7 +56,7 @@ fn reply_at(
 }
 
 // Replies to requests of 48 octets that stand one after another. `times` has the T2 and the T3 of each, `replies` gets a reply of 48 octets and `numbers` a
-// number for each, as `server::reply` gives them. As many are answered as all four have room for; that count is returned, and everything past it stays.
+// number for each, as `server::reply` gives them; the four stand apart, as C lends them. As many are answered as all four have room for; that count is returned, and everything past it stays.
 #[tactic(auto, using(crate::proofs::Block::no_reply, crate::proofs::Block::no_number, crate::proofs::Block::next_replies, crate::proofs::Block::next_numbers))]
 pub fn reply_block(
     settings: Settings,
