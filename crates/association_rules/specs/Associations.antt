@@ -60,6 +60,10 @@ alternate_of_record list at = cond (ltb at (length list)) (alternate list at) No
 abbrev pub list_after : List Client → (at in_use : ℕ) → Client → List Client
 list_after list at in_use next = kept (list_tests list at in_use pass) list (set list at next)
 
+-- a refused call leaves the number in use as it was
+abbrev pub refused_for : {T : Type 0} → Refusal → ℕ → ListCalled T
+refused_for r in_use = record { answer = Err r; in_use = in_use }
+
 -- an ask or a give-up, of which the client makes this: use does not move
 abbrev pub called_for : {T : Type 0} → List Client → (at in_use : ℕ) → Called T → ListCalled T
 called_for list at in_use called = record {

@@ -10,7 +10,7 @@ use reply_checks::ArrivalAnswer;
 pub(crate) fn outside(count: usize, at: usize, in_use: usize) -> bool
     ensures { result ≡ outside count at in_use }
 {
-    !((1 <= count) & (count <= 8)) | !(at < count) | !(in_use < count)
+    !(1..=8).contains(&count) || at >= count || in_use >= count
 }
 
 // The number in use after an arrival for the record `at` with this answer. After a kiss of the record in use its alternate is in use, if it has one.

@@ -1,6 +1,9 @@
 // The rules of a gateway's associations, over a list of client records (docs/RULES.md, "Associations"). The crate `associations` has the calls.
 #![tactic(auto)]
 
+ghost use Rattle.std.specs.Prelude.{◌≡◌};
+ghost use Rattle.association_rules.specs.Associations.{refused_for};
+
 mod in_use;
 mod list_tests;
 mod search;
@@ -15,4 +18,16 @@ pub use search::alternate;
 pub struct ListCalled<T> {
     pub answer: Result<T, Refusal>,
     pub in_use: usize,
+}
+
+impl<T> ListCalled<T> {
+    // A refused call leaves the number in use as it was.
+    pub fn refused(refusal: Refusal, in_use: usize) -> ListCalled<T>
+        ensures { result ≡ refused_for refusal in_use }
+    {
+        ListCalled {
+            answer: Err(refusal),
+            in_use,
+        }
+    }
 }

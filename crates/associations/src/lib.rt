@@ -1,5 +1,6 @@
 // A gateway's associations: the calls for one record of a lent list (docs/RULES.md, "Associations"). The rules stand in the crate `association_rules`.
-// The three calls begin alike. One function for that would take the client's call as a closure, with the rules of a list over any such call, and is no plainer.
+// One function for the three calls would take the client's call as a closure, with the rules of a list over any such call, and is no plainer. Their arguments come one
+// by one, as C passes them.
 #![tactic(auto)]
 
 ghost use Rattle.std.specs.Prelude.{◌≡◌, length};
@@ -28,10 +29,7 @@ pub fn ask(
     ensures buffer { buffer.new ≡ buffer_after_ask list.old at in_use buffer.old version clock token uptime }
 {
     if let Err(refusal) = check(list, at, in_use) {
-        return ListCalled {
-            answer: Err(refusal),
-            in_use,
-        };
+        return ListCalled::refused(refusal, in_use);
     }
     let called = list[at].ask(buffer, version, clock, token, uptime);
     list[at] = called.client;
@@ -54,10 +52,7 @@ pub fn arrival(
     ensures list { list.new ≡ list_after_arrival list.old at in_use packet.now t4 }
 {
     if let Err(refusal) = check(list, at, in_use) {
-        return ListCalled {
-            answer: Err(refusal),
-            in_use,
-        };
+        return ListCalled::refused(refusal, in_use);
     }
     let alternate = alternate(list, at);
     let called = list[at].arrival(packet, t4, alternate.is_some());
@@ -75,10 +70,7 @@ pub fn give_up(list: &mut [Client], at: usize, in_use: usize, uptime: u64) -> Li
     ensures list { list.new ≡ list_after_give_up list.old at in_use uptime }
 {
     if let Err(refusal) = check(list, at, in_use) {
-        return ListCalled {
-            answer: Err(refusal),
-            in_use,
-        };
+        return ListCalled::refused(refusal, in_use);
     }
     let called = list[at].give_up(uptime);
     list[at] = called.client;
