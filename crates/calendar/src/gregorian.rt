@@ -1,4 +1,5 @@
-// Years and months of the Gregorian calendar, each worked out directly. `extra` is the number of leap days of a year, 0 or 1.
+// Years and months of the Gregorian calendar, each worked out directly. `extra` is the number of leap days of a year, 0 or 1, which the formulas add; a month is its
+// number, 1 to 12.
 ghost use Rattle.std.specs.Prelude.{◌≡◌, ◌+◌, ◌^◌, ◌*◌, ◌≤◌, ◌<◌};
 ghost use Rattle.calendar.specs.Gregorian.{leap_days, year_days, month_days, before, last};
 ghost use Rattle.calendar.specs.Dates.{year_on};
@@ -6,7 +7,7 @@ ghost use Rattle.calendar.specs.Dates.{year_on};
 // The days of January to December in a year without a leap day, each at its month's number.
 const MONTH_DAYS: [u64; 13] = [0, 31, 28, 31, 30, 31, 30, 31, 31, 30, 31, 30, 31];
 
-// The days before each.
+// The days before each: the sums of the days above, which the check compares.
 const DAYS_BEFORE_MONTH: [u64; 13] = [0, 0, 31, 59, 90, 120, 151, 181, 212, 243, 273, 304, 334];
 
 #[tactic(auto, unfolding(crate::specs::Gregorian::leap_days))]
@@ -18,7 +19,7 @@ pub(crate) fn leap_days(year: u64) -> u64
 }
 
 // The days from the start of the year 0 to the start of a year: of the years before it those that 4 divides have a leap day,
-// without those that 100 divides, with those that 400 divides. `div_ceil` takes more instructions.
+// without those that 100 divides, with those that 400 divides. `div_ceil` takes more instructions than docs/INSTRUCTIONS.md allows: a date 147 in place of 130.
 #[tactic(auto, using(crate::proofs::Years::years))]
 pub(crate) fn days_before_year(year: u64) -> u64
     requires { year < 2 ^ 33 }
@@ -29,7 +30,7 @@ pub(crate) fn days_before_year(year: u64) -> u64
 }
 
 // The year of the day n after the start of the year 0. 1461 days are four years with a leap day, a little over four mean years,
-// so between these days the estimate is the year or the one before it. A search of the years takes more instructions.
+// so between these days the estimate is the year or the one before it. A search of the years would loop.
 pub(crate) fn year_on(n: u64) -> u64
     requires from { 146000 ≤ n }
     requires to { n < 768600 }
@@ -82,7 +83,7 @@ pub(crate) fn days_to_month(year: u64, month: u64) -> u64
 }
 
 // The month of the day k after the start of a year: 367/12 days a month, as if February had 30 days.
-// A search of the table takes more instructions.
+// A search of the table would loop.
 pub(crate) fn month_on(extra: u64, k: u64) -> u64
     requires extra { extra < 2 }
     requires k { k < 365 + extra }

@@ -81,7 +81,7 @@ pub fn nonzero(t: Timestamp) -> Result<Timestamp, Refusal>
     Ok(t)
 }
 
-// The date of a timestamp. Refusals: 24.
+// The date of a timestamp. Refusals: 24. The conversions have names of their own, and are no `TryFrom`: each says what it is counted from.
 #[tactic(auto, unfolding(crate::specs::Calendar::date_of))]
 pub fn date_of_timestamp(t: Timestamp) -> Result<Date, Refusal>
     ensures { result ≡ date_of t }
@@ -95,8 +95,8 @@ pub fn date_of_timestamp(t: Timestamp) -> Result<Date, Refusal>
 fn is_date(d: Date) -> bool
     ensures { result ≡ exists d }
 {
-    let days = gregorian::days_in_month(d.year as u64, d.month as u64);
-    (1..=days).contains(&(d.day as u64)) && d.hour < 24 && d.minute < 60 && d.second < 60
+    let days = gregorian::days_in_month(u64::from(d.year), u64::from(d.month));
+    (1..=days).contains(&u64::from(d.day)) && d.hour < 24 && d.minute < 60 && d.second < 60
 }
 
 // The seconds from the start of the year 0 to a date.
@@ -106,8 +106,8 @@ fn seconds_to(d: Date) -> u64
     requires day { 0 < d.day }
     ensures { result ≡ seconds_to d }
 {
-    let days = gregorian::days_to_month(d.year as u64, d.month as u64) + (d.day as u64 - 1);
-    days * 86400 + (d.hour as u64 * 60 + d.minute as u64) * 60 + d.second as u64
+    let days = gregorian::days_to_month(u64::from(d.year), u64::from(d.month)) + (u64::from(d.day) - 1);
+    days * 86400 + (u64::from(d.hour) * 60 + u64::from(d.minute)) * 60 + u64::from(d.second)
 }
 
 // Whether the window has the second s after the start of the year 0.

@@ -50,7 +50,7 @@ impl Client {
     }
 
     // Ask: the client request of RFC 4330, section 5, is written into the buffer for the caller to send. It carries the token, and not the clock reading, which
-    // the client keeps as T1.
+    // the client keeps as T1. The arguments come one by one, as C passes them.
     #[tactic(auto, using(ordered_tests::proofs::Tests::by_refusal, ordered_tests::proofs::Tests::by_passing, ordered_tests::proofs::Tests::kept_refused, ordered_tests::proofs::Tests::kept_passing, crate::proofs::Asked::sent), unfolding(crate::specs::Ask::after_ask, crate::specs::Ask::after_ask_buffer))]
     pub fn ask(
         self,

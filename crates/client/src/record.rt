@@ -11,6 +11,7 @@ use refusals::Refusal;
 use timestamp::Timestamp;
 use token::Token;
 
+// The rules' words for the phases.
 impl Phase {
     pub(crate) fn is_idle(self) -> bool
         ensures { result ≡ is_idle self }
@@ -81,9 +82,8 @@ impl Client {
             t1: Timestamp::ZERO,
             token: Token::ZERO,
             version: 0,
-            asked: self.asked,
-            uptime: self.uptime,
             exponent,
+            ..self
         }
     }
 

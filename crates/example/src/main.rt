@@ -9,6 +9,8 @@ use client::Client;
 use exchange::{Exchange, T1, T4, reply};
 use std::io;
 
+// Each function is lent the runtime, by which it prints.
+
 // An exchange; then its reply a second time.
 fn accepted(rt: &impl Print, exchange: &mut Exchange) -> io::Result<()> {
     exchange.ask(rt, T1, 1, 0)?;

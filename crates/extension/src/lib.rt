@@ -99,7 +99,7 @@ pub fn begin(packet: &[u8]) -> Result<Cursor, Refusal>
 }
 
 // The field that stands at the cursor, or None at the end of the fields. It looks at that one head. A walk from where `begin` points meets no refusal.
-// `begin` and `next` are no iterator: C and the promises have a call for each step.
+// `begin` and `next` are no iterator: C has a call for each step, and demands/specs/Next.antt speaks of one step at any index.
 #[tactic(auto, using(crate::proofs::Reader::at_within, crate::proofs::Reader::end_within, crate::proofs::Reader::field_found, crate::proofs::Reader::end_found, crate::proofs::Reader::neither_found))]
 pub fn next(packet: &[u8], cursor: Cursor) -> Result<Option<Field>, Refusal>
     ensures { result ≡ next packet.now cursor }
@@ -120,7 +120,7 @@ pub fn next(packet: &[u8], cursor: Cursor) -> Result<Option<Field>, Refusal>
     Ok(None)
 }
 
-// The packet's octets from start to end, as far as it has them. It takes the two ends, and no field, as the promise for it does.
+// The packet's octets from start to end, as far as it has them. It takes two ends and no field: demands/specs/Body.antt speaks of any two.
 pub fn body(packet: &[u8], start: usize, end: usize) -> &[u8]
     ensures { result.now ≡ part start (end - start) packet.now }
 {

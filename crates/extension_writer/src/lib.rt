@@ -72,7 +72,7 @@ fn store_field(field: &mut [u8], field_type: u16, body: &[u8])
 }
 
 // Adds a field at the end of the packet, and gives the packet's new length. Every octet outside the field stays. The packet is the buffer's first octets, as many
-// as size says; those behind it are the room. C and the promises have the buffer and the size apart.
+// as size says; those behind it are the room. C lends the buffer and the size apart.
 #[tactic(auto, using(crate::proofs::Adding::part_within, crate::proofs::Adding::part_length, crate::proofs::Adding::part_small, crate::proofs::Adding::stored))]
 pub fn add(buffer: &mut [u8], size: usize, field_type: u16, body: &[u8]) -> Result<usize, Refusal>
     ensures value { result ≡ added buffer.old size body.now }

@@ -1,21 +1,13 @@
 -- What reading an image says of it, and an answer slice after a refusal.
 use Rattle.std.proofs.Common.{◌≡◌, refl, ℕ, Bool, true, false, cond, List, length}
 use lib.Dec.{eqb}
-use Rattle.std.specs.Prelude.{None, Some}
+use Rattle.std.specs.Prelude.{Some}
 use Rattle.client.specs.declared.Client.{Client}
 use Rattle.client.specs.Calls.{refused}
 use Rattle.firmware_layouts.specs.Image.{is_image, record_in, image_read}
 use Rattle.firmware_layouts.specs.Answer.{answer_in, with_answer}
 
 module _ (image : List ℕ) where
-  pub no_image : image_read image ≡ None → is_image image ≡ false
-  unfolding image_read
-  no_image q = go (is_image image) refl
-    where
-      go : (b : Bool) → is_image image ≡ b → is_image image ≡ false
-      go true e = absurd (cc (rw e at q))
-      go false e = e
-
   pub an_image : (c : Client) → image_read image ≡ Some c → (is_image image ≡ true) × (record_in image ≡ c)
   unfolding image_read
   an_image c q = go (is_image image) refl

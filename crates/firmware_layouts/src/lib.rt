@@ -24,7 +24,7 @@ pub const ANSWER: usize = 24;
 
 // ---- the image, read
 
-// Any other octet than 0 and 1 is taken for stopped: it cannot fail, so it is no `TryFrom`.
+// Any other octet than 0 and 1 is taken for stopped. No `From<u8>`: `Phase` is the client's, and only in an image another octet means stopped.
 pub fn phase_of(octet: u8) -> Phase
     ensures { result ≡ phase_of octet }
 {
@@ -35,7 +35,7 @@ pub fn phase_of(octet: u8) -> Phase
     }
 }
 
-// The octets that have few values have one of them.
+// The octets that have few values have one of them. `octet_or_zero` reads them, so that no contract has to speak of the length.
 #[tactic(auto, unfolding(crate::specs::Image::has_legal_values))]
 fn has_legal_values(image: &[u8]) -> bool
     ensures { result ≡ has_legal_values image.now }
@@ -86,6 +86,7 @@ fn put_head(b: &mut [u8], x0: u8, x1: u8, x2: u8, x3: u8, number: u32)
     write_be32(b, 4, number);
 }
 
+// A phase and a flag as octets, by the definitions that images have.
 pub fn phase_octet(phase: Phase) -> u8
     ensures { result ≡ octet_of_phase phase }
 {

@@ -8,7 +8,7 @@ ghost use Rattle.hex_decode.specs.Decoding.{pushed_line, pushed_line_buffer};
 const LINE_FEED: u8 = b'\n';
 
 // What follows the whole octets of a line.
-#[derive(Clone, Copy)]
+#[derive(Clone, Copy, Debug, PartialEq, Eq)]
 pub enum Rest {
     Nothing,
     // A digit that waits for its second one.
@@ -31,8 +31,8 @@ pub struct PushedLine {
     pub at: usize,
 }
 
-// The value of a digit of either case. The letters of both cases end in the bits of 1 to 6. The value is tested last, so that the compiler makes no branch that
-// tells letters from the other digits, as it does of `to_digit`: a processor can't predict it.
+// The value of a digit of either case. The letters of both cases end in the bits of 1 to 6. The value is worked out first and tested last:
+// `to_digit` becomes a branch between digits and letters, which a processor can't predict.
 #[tactic(auto, unfolding(crate::specs::Lines::digit_of))]
 pub fn digit(c: u8) -> Option<u8>
     ensures value { result ≡ digit_of c }
@@ -61,12 +61,12 @@ impl Line {
         ensures { result ≡ refused self }
     {
         Line {
-            count: self.count,
             rest: Rest::Malformed,
+            ..self
         }
     }
 
-    // One more character, which is not the line's end. A digit that waits is below 16, so its remainder is itself; it lets the sum fit whatever the line is.
+    // One more character, which is not the line's end. `% 16` changes no digit: it is there since any `Line` may be handed in.
     #[tactic(auto, unfolding(crate::specs::Lines::pushed, crate::specs::Lines::pushed_buffer))]
     pub fn push(self, buffer: &mut [u8], c: u8) -> Line
         ensures answer { result ≡ pushed self buffer.old c }
@@ -77,8 +77,8 @@ impl Line {
         };
         match self.rest {
             Rest::Nothing => Line {
-                count: self.count,
                 rest: Rest::Digit(value),
+                ..self
             },
             Rest::Digit(high) if self.count < buffer.len() => {
                 buffer[self.count] = high % 16 * 16 + value;
@@ -91,7 +91,7 @@ impl Line {
         }
     }
 
-    // Takes the characters from index at on, up to a line feed or to the last one.
+    // Takes the characters from index at on, up to a line feed or to the last one. The index goes on through the whole input, as its caller counts.
     pub fn push_line(self, buffer: &mut [u8], characters: &[u8], at: usize) -> PushedLine
         ensures answer { result ≡ pushed_line self buffer.old characters.now at }
         ensures buffer { buffer.new ≡ pushed_line_buffer self buffer.old characters.now at }
@@ -124,6 +124,6 @@ impl Line {
     pub fn is_complete(self) -> bool
         ensures { result ≡ is_complete self }
     {
-        matches!(self.rest, Rest::Nothing)
+        self.rest == Rest::Nothing
     }
 }

@@ -37,7 +37,8 @@ fn put_octets(output: &mut [u8], at: usize, octets: &[u8]) -> usize
     end
 }
 
-// Puts a line of octets into the output from index at on, and answers the index after it; where there is no room, puts nothing.
+// Puts a line of octets into the output from index at on, and answers the index after it; if there is no room, puts nothing. The output is lent whole, since the
+// contract tells that the octets before the index stay.
 #[tactic(auto, using(crate::proofs::Written::length_digits, crate::proofs::Written::length_text, crate::proofs::Written::put_last), unfolding(crate::specs::Text::put_line, crate::specs::Text::put_line_at))]
 pub fn put_line(output: &mut [u8], at: usize, octets: &[u8]) -> Option<usize>
     ensures answer { result ≡ put_line_at output.old at octets.now }

@@ -8,7 +8,7 @@ ghost use Rattle.kiss.specs.Kiss.{code_of, names, codes, row_of};
 pub fn code(name: &[u8; 4]) -> u32
     ensures { result ≡ code_of name.now }
 {
-    octets::be32(name[0], name[1], name[2], name[3])
+    u32::from_be_bytes(*name)
 }
 
 // The codes of the rules' rows 1 to 14.

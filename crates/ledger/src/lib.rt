@@ -19,7 +19,7 @@ pub struct Ledger {
     pub debt: i64,
 }
 
-// What a call answers, with the next record.
+// What a call answers, with the next record. The client's `Called` is another type, since each names its record.
 #[derive(Clone, Copy)]
 pub struct Called<T> {
     pub answer: Result<T, Refusal>,
@@ -41,7 +41,7 @@ fn half_units(offset: i64, half: u8) -> i64
     ensures is { result ≡ half_units offset half }
     ensures small { unsigned_abs result < 2 ^ 42 }
 {
-    offset + offset + half as i64
+    offset + offset + i64::from(half)
 }
 
 // Twice an offset may not fit 64 bits: one of more than 2^40 units is too large whatever its half.

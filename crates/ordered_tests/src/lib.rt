@@ -9,5 +9,5 @@ ghost use Rattle.ordered_tests.specs.Tests.{between};
 pub fn between(low: u8, high: u8, n: u8) -> bool
     ensures { result ≡ between low high n }
 {
-    (low <= n) & (n <= high)
+    (low..=high).contains(&n)
 }

@@ -12,7 +12,7 @@ use timestamp::Timestamp;
 // The octets of a packet that has neither extension fields nor an authenticator.
 pub const LENGTH: usize = extension::HEADER_LENGTH;
 
-// `leap` is LI and `version` VN; root delay and root dispersion have 16 fraction bits.
+// `leap` is LI and `version` VN; root delay and root dispersion have 16 fraction bits. Numbers and no enums: `write` refuses by 27 what is too large for its bits.
 #[derive(Clone, Copy, Debug, PartialEq, Eq)]
 pub struct Fields {
     pub leap: u8,

@@ -4,13 +4,12 @@
 ghost use Rattle.std.specs.Prelude.{◌≡◌, ◌^◌};
 ghost use Rattle.poll.specs.Poll.{too_soon, backed_off};
 
-// The uptime is below an earlier one, or less than `seconds` past it. No sum is formed, so nothing wraps. `checked_sub` takes two
-// instructions more.
+// The uptime is below an earlier one, or less than `seconds` past it. No sum is formed, so nothing wraps.
 #[tactic(auto, unfolding(crate::specs::Poll::too_soon))]
 pub fn too_soon(since: u64, seconds: u64, uptime: u64) -> bool
     ensures { result ≡ too_soon since seconds uptime }
 {
-    uptime < since || uptime - since < seconds
+    uptime.checked_sub(since).is_none_or(|past| past < seconds)
 }
 
 // Within the poll interval, 2^exponent seconds: with an exponent of 64 or more every uptime is.

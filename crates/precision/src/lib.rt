@@ -16,6 +16,6 @@ pub fn precision_of_tick(tick: u64) -> Result<i8, Refusal>
         return Err(Refusal::TickOutOfRange);
     }
     // The length in bits of tick - 1 is the exponent in units, of which 2^32 are a second.
-    // `next_power_of_two` and `ilog2` take more instructions.
+    // `next_power_of_two` forms the power first, which takes more instructions.
     Ok((u64::BITS - (tick - 1).leading_zeros()) as i8 - 32)
 }

@@ -101,10 +101,6 @@ turn r left buffer room {buffer'} {f} {a} {b} {c} e p h w = rw e (record {
   wrote = appends_both a b c h.out (ran r left room).output h.wrote (rw (written_part (ran r left room) f buffer buffer' e p) at w);
 })
 
-pub keeps_same : (known : Option (List ℕ)) → Keeps known known
-keeps_same None = tt
-keeps_same (Some xs) = refl
-
 -- a read that gave nothing
 pub reads_nothing : (r : Replay) (unread unread' written : Option (List ℕ)) → Keeps unread unread' → AnswersRead r r unread unread' written written
 reads_nothing r unread unread' written h = record {

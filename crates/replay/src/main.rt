@@ -62,7 +62,7 @@ fn read_some<R: Read, W: Write>(
     }
 }
 
-// A proved loop has to end, and nothing says that the input does: the loop counts its turns, to a number that no run uses up. An input that is
+// A loop that may not end takes `Wait`, which no function here may; and nothing says that the input ends. So the loop counts its turns, to a number that no run uses up. An input that is
 // longer would count as one whose read failed.
 fn read_all<R: Read, W: Write>(
     replay: &mut Replay,

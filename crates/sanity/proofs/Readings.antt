@@ -5,16 +5,16 @@ use mathlib.Core.Bool.{Bool, true, false}
 use native.Mathlib.Omega.{arith}
 use borrow.Author.Tests.{ltb-true, ltb-false, le-ltb, le-leb}
 use lib.Dec.{ltb}
-use lib.IntN.{pos, negsuc}
+use lib.IntN.{negsuc}
 use Rattle.arithmetic.specs.TwosComplement.{signed}
-use Rattle.arithmetic.proofs.Integers.{integers, minus}
+use Rattle.std.proofs.lemmas.Int.{ints}
 use Rattle.arithmetic.proofs.TwosComplement.{signed_low, signed_high}
 use Rattle.sanity.specs.Sanity.{is_root_delay_out_of_range, is_root_dispersion_too_large}
 use Rattle.sanity.specs.Readings.{Readings}
 
 -- the upper half of the 2^32 numbers stand for negative ones
 upper : (n : ℕ) → 2 ^ 31 ≤ n → n < 2 ^ 32 → signed 32 n ≡ negsuc (2 ^ 32 - suc n)
-upper n l h = let s = signed_high 32 n l in omega (arith, integers, minus (pos n) (pos (2 ^ 32)))
+upper n l h = let s = signed_high 32 n l in omega (arith, ints)
 
 delay_either : (n : ℕ) → n < 2 ^ 32 → is_root_delay_out_of_range (signed 32 n) ≡ is_root_dispersion_too_large n
 delay_either n h = go (ltb n (2 ^ 31)) refl

@@ -13,7 +13,7 @@ use timestamp::Timestamp;
 fn root_delay_out_of_range(delay: i32) -> bool
     ensures { result ≡ is_root_delay_out_of_range delay }
 {
-    (delay < 0) | (65536 <= delay)
+    !(0..65536).contains(&delay)
 }
 
 fn root_dispersion_too_large(dispersion: u32) -> bool

@@ -20,7 +20,7 @@ fn in_order(t2: Timestamp, t3: Timestamp) -> bool
     t3.0.wrapping_sub(t2.0) < 0x8000_0000_0000_0000
 }
 
-// The tests in order, of a request with these fields. Most requests pass the last two, so one comparison for both comes first.
+// The tests in order, of a request with these fields; T2 and T3 come apart, as C passes them. Most requests pass the last two, so one comparison for both comes first.
 #[tactic(auto, using(timestamp::proofs::Order::unordered, timestamp::proofs::Order::taken, crate::proofs::Server::reversed), unfolding(crate::specs::Server::request_tests))]
 fn check_request(
     settings: Settings,

@@ -9,7 +9,7 @@ use lib.IntN.{pos, neg_ℤ}
 use lib.Signed.{lt_z}
 use mir.Facts.{or_no, ltb_no}
 use Rattle.arithmetic.specs.TwosComplement.{Fits}
-use Rattle.arithmetic.proofs.Integers.{integers, neg}
+use Rattle.std.proofs.lemmas.Int.{ints}
 use Rattle.packet.specs.Packet.{is_field_too_large}
 use Rattle.server_packet.specs.declared.Settings.{Settings}
 use Rattle.server_packet.specs.declared.Message.{Message}
@@ -29,8 +29,8 @@ module _ (s : Settings) (set : T (not (out_of_range s))) where
 
   pub precision_fits : Fits 8 s.precision
   precision_fits = record {
-    low = omega (arith, integers, neg (pos 32), neg (pos 128), in_range.1);
-    high = omega (arith, integers, in_range.2);
+    low = omega (arith, ints, in_range.1);
+    high = omega (arith, ints, in_range.2);
   }
 
   pub packet_small : (m : Message) → m.version ≤ 7 → m.mode ≤ 7 → is_field_too_large (packet_fields s m) ≡ false

@@ -9,8 +9,8 @@ use packet::Fields;
 use refusals::Refusal;
 use timestamp::Timestamp;
 
-// `leap` is LI; `identifier` and `reference` say from where and when the server's clock was last set. `synchronised` is a flag and the others are no variant of it: 23
-// refuses them whatever it is.
+// `leap` is LI; `identifier` and `reference` say from where and when the server's clock was last set. `synchronised` is a flag beside the
+// others: 23 refuses an LI or a precision out of range also where it is not set.
 #[derive(Clone, Copy)]
 pub struct Settings {
     pub synchronised: bool,
@@ -36,7 +36,7 @@ pub struct Message {
 pub fn out_of_range(settings: Settings) -> bool
     ensures { result ≡ out_of_range settings }
 {
-    (2 < settings.leap) | (settings.precision < -32) | (0 < settings.precision)
+    2 < settings.leap || !(-32..=0).contains(&settings.precision)
 }
 
 fn synchronised_fields(settings: Settings, message: Message) -> Fields

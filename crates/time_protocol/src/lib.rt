@@ -24,8 +24,6 @@ pub fn write(count: u32, buffer: &mut [u8]) -> Result<(), Refusal>
 pub fn read(octets: &[u8]) -> Result<u32, Refusal>
     ensures { result ≡ read_answer octets.now }
 {
-    if octets.len() != 4 {
-        return Err(Refusal::TimeLengthWrong);
-    }
-    Ok(slices::read_be32(octets, 0))
+    let octets: &[u8; 4] = octets.as_array().ok_or(Refusal::TimeLengthWrong)?;
+    Ok(u32::from_be_bytes(*octets))
 }

@@ -51,7 +51,7 @@ impl Timestamp {
     pub fn from_seconds(seconds: u32, fraction: u32) -> Timestamp
         ensures { result ≡ from_seconds seconds fraction }
     {
-        Timestamp((seconds as u64) * Timestamp::SECOND + (fraction as u64))
+        Timestamp(u64::from(seconds) * Timestamp::SECOND + u64::from(fraction))
     }
 
     pub fn seconds(self) -> u32
@@ -66,13 +66,15 @@ impl Timestamp {
         (self.0 % Timestamp::SECOND) as u32
     }
 
+    // The rules' word. A token has its own: a trait for the two would say no more.
     pub fn is_zero(self) -> bool
         ensures { result ≡ is_zero self }
     {
         self == Timestamp::ZERO
     }
 
-    // The signed difference self - other, right also across the wrap of 2036. Half a circle apart, 2^63 units, neither of the two is the earlier one.
+    // The signed difference self - other, right also across the wrap of 2036. Half a circle apart, 2^63 units, neither of the two is the earlier one: there is no
+    // difference, so this is no `Sub`, and timestamps have no order as `PartialOrd` wants one.
     pub fn minus(self, other: Timestamp) -> Option<i64>
         ensures { result ≡ ordered (self since other) }
     {

@@ -20,7 +20,7 @@ impl Token {
         self == Token::ZERO
     }
 
-    // The field of a packet that carries the token. No `From`: a token becomes a timestamp only here.
+    // The field of a packet that carries the token. A method and no `From`, so that no `.into()` makes a timestamp of a token unseen.
     pub fn field(self) -> Timestamp
         ensures { result ≡ carried self }
     {

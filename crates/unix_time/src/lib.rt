@@ -33,10 +33,10 @@ fn unix_second(t: Timestamp) -> i64
 fn nanoseconds_of(fraction: u32) -> u32
     ensures { result ≡ nanoseconds_of fraction }
 {
-    (fraction as u64 * SECOND / Timestamp::SECOND) as u32
+    (u64::from(fraction) * SECOND / Timestamp::SECOND) as u32
 }
 
-// The Unix time of a timestamp. Refusals: 24.
+// The Unix time of a timestamp. Refusals: 24. The conversions have names of their own, as in `calendar`, and are no `TryFrom`.
 #[tactic(auto, unfolding(crate::specs::UnixTime::unix_time_of))]
 pub fn unix_time_of_timestamp(t: Timestamp) -> Result<UnixTime, Refusal>
     ensures { result ≡ unix_time_of t }
@@ -48,12 +48,12 @@ pub fn unix_time_of_timestamp(t: Timestamp) -> Result<UnixTime, Refusal>
     })
 }
 
-// The fraction of nanoseconds, rounded up. `div_ceil` takes more instructions.
+// The fraction of nanoseconds, rounded up. `div_ceil` takes more instructions than docs/INSTRUCTIONS.md allows: 29 in place of 22.
 fn fraction_of(nanoseconds: u32) -> u32
     requires { nanoseconds < 10 ^ 9 }
     ensures { result ≡ fraction_above nanoseconds }
 {
-    ((nanoseconds as u64 * Timestamp::SECOND + (SECOND - 1)) / SECOND) as u32
+    ((u64::from(nanoseconds) * Timestamp::SECOND + (SECOND - 1)) / SECOND) as u32
 }
 
 // The timestamp of a Unix time. Refusals, in order: 25, 26, 24.
@@ -61,7 +61,7 @@ fn fraction_of(nanoseconds: u32) -> u32
 pub fn timestamp_of_unix_time(u: UnixTime) -> Result<Timestamp, Refusal>
     ensures { result ≡ timestamp_of u }
 {
-    if SECOND <= u.nanoseconds as u64 {
+    if SECOND <= u64::from(u.nanoseconds) {
         return Err(Refusal::NoSuchDate);
     }
     // Counted from the start of the year 0; a second before it wraps to one past the window.
