@@ -30,9 +30,8 @@ pub struct Fields {
     pub transmit: Timestamp,
 }
 
-// The fields of a packet that has at least 48 octets.
-fn read_fields(p: &[u8]) -> Fields
-    requires { packet_length ≤ length p.now }
+// The fields of 48 octets.
+fn read_fields(p: &[u8; LENGTH]) -> Fields
     ensures { result ≡ fields_of p.now }
 {
     Fields {
@@ -53,13 +52,14 @@ fn read_fields(p: &[u8]) -> Fields
 }
 
 // Reads the first 48 octets, whatever stands behind them. The slice is cut to a known length, so no field needs a test.
+#[tactic(auto, using(crate::proofs::RoundTrips::fields_of_take))]
 pub fn read_header(packet: &[u8]) -> Result<Fields, Refusal>
     ensures { result ≡ header_answer packet.now }
 {
-    if packet.len() < LENGTH {
-        return Err(Refusal::PacketLengthWrong);
-    }
-    Ok(read_fields(&packet[..LENGTH]))
+    packet
+        .first_chunk()
+        .map(read_fields)
+        .ok_or(Refusal::PacketLengthWrong)
 }
 
 // Reads the first 48 octets of a packet. Its extension fields and its authenticator are not read.

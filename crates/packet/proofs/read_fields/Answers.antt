@@ -1,5 +1,5 @@
 -- Field by field, from what each call ensures.
-use Rattle.std.proofs.Common.{ℕ, ◌+◌, ◌≤◌, ◌≡◌, ◌∙◌, arith, w8, w32, length}
+use Rattle.std.proofs.Common.{rules, ℕ, ◌+◌, ◌≤◌, ◌≡◌, ◌∙◌, arith, w8, w32, length}
 use Rattle.arithmetic.specs.Octets.{big_endian, part}
 use Rattle.arithmetic.proofs.Machine.{held_result}
 use Rattle.slices.specs.Slices.{read_at}
@@ -11,7 +11,7 @@ pub returns : goal.returns
 unfolding fields_of
 returns c =
     let p = c.args.p.now in
-    let long : 48 ≤ length p = c.requires in
+    let long : length p ≡ 48 = search rules in
     let room : (n at : ℕ) → at + n ≤ 48 → read_at n p at ≡ big_endian (part at n p) = λ n at h. number_room n p at (omega arith) in
     rw (
       held_result w8 c.signed8.type_inv c.signed8.ensures,
