@@ -4,11 +4,12 @@ use native.Mathlib.Omega.{arith}
 use native.Mathlib.Nat.{zero-add}
 use mathlib.Core.Path.{◌≡◌, refl, sym, ◌∙◌}
 use mathlib.Core.Bool.{Bool, true, false, ◌||◌}
-use mathlib.Core.List.{List, [], ◌∷◌, ◌++◌}
+use mathlib.Core.List.{List, [], ◌∷◌, ◌++◌, append-nil}
 use borrow.Author.Tests.{le-ltb, ltb-false}
 use lib.Dec.{ltb}
-use lib.ListN.{length, drop, length-append}
+use lib.ListN.{length, take, drop, length-append}
 use lib.Seq.{sets, sets-eq}
+use Rattle.std.proofs.lemmas.List.{drop_all, take-append-drop}
 use Rattle.arithmetic.specs.Octets.{big_endian, octets, AreOctets}
 use Rattle.arithmetic.proofs.Octets.{length_octets, octets_big_endian}
 use Rattle.ordered_tests.specs.Tests.{◌if◌else◌, otherwise, given}
@@ -55,10 +56,15 @@ module _ (b : List ℕ) (f : Fields) (long : 48 ≤ length b) (small : is_field_
   pub octets_written : written b f ≡ octets_of f ++ drop 48 b
   octets_written = rw (le-ltb (length b) 48 long, small)
 
-  pub stored : sets b 0 (octets_of f) ≡ written b f
-  stored =
-      let l = length_octets_of f in
-      sets-eq (octets_of f) b 0 (rw (l, zero-add) long) ∙ (rw (zero-add, l)) ∙ sym octets_written
+-- stored into 48 octets, the fields' octets are all that is left
+pub stored : (b : List ℕ) (f : Fields) → length b ≡ 48 → sets b 0 (octets_of f) ≡ octets_of f
+stored b f long =
+    let l = length_octets_of f in
+    sets-eq (octets_of f) b 0 (omega (arith, l)) ∙ (rw (zero-add, l, drop_all 48 b (omega arith)) (append-nil _))
+
+-- fields that are too large leave the buffer, its first 48 octets and the rest, as it was
+pub large_kept : (b c : List ℕ) (f : Fields) → 48 ≤ length b → c ≡ take 48 b → is_field_too_large f ≡ true → c ++ drop 48 b ≡ written b f
+large_kept b c f long first large = rw (le-ltb (length b) 48 long, large, first) (take-append-drop 48 b)
 
 -- ---- what the answer of reading tells of the packet
 

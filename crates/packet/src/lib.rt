@@ -72,22 +72,14 @@ pub fn read(packet: &[u8]) -> Result<Fields, Refusal>
     read_header(packet)
 }
 
-// Stores the octets of four timestamps from index at on.
-fn put_timestamps(
-    b: &mut [u8],
-    at: usize,
-    t0: Timestamp,
-    t1: Timestamp,
-    t2: Timestamp,
-    t3: Timestamp,
-)
-    requires { at + 32 ≤ length b.old }
-    ensures { b.new ≡ sets b.old at (octets 8 t0.0 ++ octets 8 t1.0 ++ octets 8 t2.0 ++ octets 8 t3.0) }
+// Stores the octets of the four timestamps.
+fn put_timestamps(b: &mut [u8; LENGTH], fields: Fields)
+    ensures { b.new ≡ sets b.old 16 (octets 8 fields.reference.0 ++ octets 8 fields.originate.0 ++ octets 8 fields.receive.0 ++ octets 8 fields.transmit.0) }
 {
-    slices::write_be64(b, at, t0.0);
-    slices::write_be64(b, at + 8, t1.0);
-    slices::write_be64(b, at + 16, t2.0);
-    slices::write_be64(b, at + 24, t3.0);
+    slices::write_be64(b, 16, fields.reference.0);
+    slices::write_be64(b, 24, fields.originate.0);
+    slices::write_be64(b, 32, fields.receive.0);
+    slices::write_be64(b, 40, fields.transmit.0);
 }
 
 // A field is too large to write.
@@ -119,36 +111,29 @@ fn first_word(fields: Fields) -> u32
 }
 
 // Stores the 48 octets of fields that are not too large.
-fn put_fields(b: &mut [u8], fields: Fields)
-    requires packet_length_in_bounds { packet_length ≤ length b.old }
-    requires fields_value { is_field_too_large fields ≡ false }
-    ensures { b.new ≡ sets b.old 0 (octets_of fields) }
+fn put_fields(b: &mut [u8; LENGTH], fields: Fields)
+    requires { is_field_too_large fields ≡ false }
+    ensures { b.new ≡ octets_of fields }
 {
     slices::write_le32(b, 0, first_word(fields));
     slices::write_be32(b, 4, twos_complement::bits32(fields.root_delay));
     slices::write_be32(b, 8, fields.root_dispersion);
     slices::write_be32(b, 12, fields.identifier);
-    put_timestamps(
-        b,
-        16,
-        fields.reference,
-        fields.originate,
-        fields.receive,
-        fields.transmit,
-    );
+    put_timestamps(b, fields);
 }
 
 // Writes the fields into the first 48 octets of the buffer.
+#[tactic(auto, using(crate::proofs::Packet::large_kept, crate::proofs::Packet::octets_written))]
 pub fn write(buffer: &mut [u8], fields: Fields) -> Result<(), Refusal>
     ensures answer { result ≡ write_answer buffer.old fields }
     ensures buffer { buffer.new ≡ written buffer.old fields }
 {
-    if buffer.len() < LENGTH {
+    let Some(b) = buffer.first_chunk_mut() else {
         return Err(Refusal::BufferTooShort);
-    }
+    };
     if field_too_large(fields) {
         return Err(Refusal::FieldTooLarge);
     }
-    put_fields(buffer, fields);
+    put_fields(b, fields);
     Ok(())
 }

@@ -1,9 +1,11 @@
 -- One run of stores after another, and the signed field by its bits.
-use Rattle.std.proofs.Common.{rules, ◌∙◌, arith, w32, SFits, to_z-of_z}
+use Rattle.std.proofs.Common.{rules, ◌≡◌, ◌∙◌, arith, w32, SFits, to_z-of_z}
 use lib.ListN.{length-append}
+use lib.Seq.{sets}
 use Rattle.arithmetic.proofs.Octets.{sets_append, length_octets}
 use Rattle.slices.proofs.Slices.{put_room, reversed_room}
 use Rattle.packet.specs.Packet.{octets_of}
+use Rattle.packet.proofs.Packet.{stored}
 use Rattle.packet.proofs.put_fields.Goals as goal
 
 pub returns : goal.returns
@@ -15,5 +17,7 @@ returns c =
     let e3 = c.write_be32-2.ensures ∙ put_room 4 c.write_be32.new.b 8 (omega arith) _ in
     let e4 = c.write_be32-3.ensures ∙ put_room 4 c.write_be32-2.new.b 12 (omega arith) _ in
     let s : SFits w32 c.args.fields.root_delay = search rules in
-    rw (c.put_timestamps.ensures, e4, e3, e2, c.bits32.ensures, e1, c.first_word.ensures, to_z-of_z s)
-    (simp (sets_append, length-append, length_octets))
+    let whole : c.put_timestamps.new.b ≡ sets b 0 (octets_of c.args.fields) =
+        rw (c.put_timestamps.ensures, e4, e3, e2, c.bits32.ensures, e1, c.first_word.ensures, to_z-of_z s)
+        (simp (sets_append, length-append, length_octets)) in
+    whole ∙ stored b c.args.fields (search rules)
