@@ -128,9 +128,7 @@ pub fn write(buffer: &mut [u8], fields: Fields) -> Result<(), Refusal>
     ensures answer { result ≡ write_answer buffer.old fields }
     ensures buffer { buffer.new ≡ written buffer.old fields }
 {
-    let Some(b) = buffer.first_chunk_mut() else {
-        return Err(Refusal::BufferTooShort);
-    };
+    let b = buffer.first_chunk_mut().ok_or(Refusal::BufferTooShort)?;
     if field_too_large(fields) {
         return Err(Refusal::FieldTooLarge);
     }
