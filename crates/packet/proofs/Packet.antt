@@ -56,11 +56,9 @@ module _ (b : List ℕ) (f : Fields) (long : 48 ≤ length b) (small : is_field_
   pub octets_written : written b f ≡ octets_of f ++ drop 48 b
   octets_written = rw (le-ltb (length b) 48 long, small)
 
--- stored into 48 octets, the fields' octets are all that is left
-pub stored : (b : List ℕ) (f : Fields) → length b ≡ 48 → sets b 0 (octets_of f) ≡ octets_of f
-stored b f long =
-    let l = length_octets_of f in
-    sets-eq (octets_of f) b 0 (omega (arith, l)) ∙ (rw (zero-add, l, drop_all 48 b (omega arith)) (append-nil _))
+-- octets stored into as many octets are all that is left
+pub stored : (b octets : List ℕ) → length octets ≡ length b → sets b 0 octets ≡ octets
+stored b octets l = sets-eq octets b 0 (omega arith) ∙ (rw (zero-add, l, drop_all (length b) b (omega arith)) (append-nil _))
 
 -- fields that are too large leave the buffer, its first 48 octets and the rest, as it was
 pub large_kept : (b c : List ℕ) (f : Fields) → 48 ≤ length b → c ≡ take 48 b → is_field_too_large f ≡ true → c ++ drop 48 b ≡ written b f

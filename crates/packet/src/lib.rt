@@ -1,9 +1,10 @@
 // The fields of a packet, read from its octets and written into a buffer.
 #![tactic(auto)]
 
-ghost use Rattle.std.specs.Prelude.{◌≡◌, ◌+◌, ◌*◌, ◌≤◌, false, ◌++◌, reverse, length, take};
+ghost use Rattle.std.specs.Prelude.{◌≡◌, ◌+◌, ◌*◌, true, false, [], ◌∷◌, ◌++◌, reverse, drop, MatchOption};
 ghost use Rattle.std.proofs.lemmas.List.Edits.{sets};
 ghost use Rattle.arithmetic.specs.Octets.{octets};
+ghost use Rattle.arithmetic.specs.TwosComplement.{bits};
 ghost use Rattle.packet.specs.Packet.{packet_length, fields_of, octets_of, is_field_too_large, header_answer, read_answer, write_answer, written};
 
 use refusals::Refusal;
@@ -82,40 +83,33 @@ fn put_timestamps(b: &mut [u8; LENGTH], fields: Fields)
     slices::write_be64(b, 40, fields.transmit.0);
 }
 
-// A field is too large to write.
-fn field_too_large(fields: Fields) -> bool
-    ensures { result ≡ is_field_too_large fields }
+// Octet 0, unless a field is too large to write.
+fn first_octet(fields: Fields) -> Option<u8>
+    ensures { MatchOption result (is_field_too_large fields ≡ true) (λ octet. (is_field_too_large fields ≡ false) × (octet ≡ fields.leap * 64 + fields.version * 8 + fields.mode)) }
 {
-    3 < fields.leap || 7 < fields.version || 7 < fields.mode
-}
-
-// Octet 0.
-fn first_octet(leap: u8, version: u8, mode: u8) -> u8
-    requires { (leap ≤ 3) × (version ≤ 7) × (mode ≤ 7) }
-    ensures { result ≡ leap * 64 + version * 8 + mode }
-{
-    leap * 64 + version * 8 + mode
+    if 3 < fields.leap || 7 < fields.version || 7 < fields.mode {
+        return None;
+    }
+    Some(fields.leap * 64 + fields.version * 8 + fields.mode)
 }
 
 // Octets 0 to 3 as a number, the lowest octet first: so the compiler keeps what does not change from packet to packet apart, and reverses nothing.
-fn first_word(fields: Fields) -> u32
-    requires { is_field_too_large fields ≡ false }
-    ensures { reverse (octets 4 result) ≡ take 4 (octets_of fields) }
+fn first_word(octet: u8, fields: Fields) -> u32
+    ensures { reverse (octets 4 result) ≡ octet ∷ fields.stratum ∷ fields.poll ∷ bits 8 fields.precision ∷ [] }
 {
     u32::from_le_bytes([
-        first_octet(fields.leap, fields.version, fields.mode),
+        octet,
         fields.stratum,
         fields.poll,
         twos_complement::bits8(fields.precision),
     ])
 }
 
-// Stores the 48 octets of fields that are not too large.
-fn put_fields(b: &mut [u8; LENGTH], fields: Fields)
-    requires { is_field_too_large fields ≡ false }
-    ensures { b.new ≡ octets_of fields }
+// Stores octet 0 and those of the fields that follow it.
+fn put_fields(b: &mut [u8; LENGTH], octet: u8, fields: Fields)
+    ensures { b.new ≡ octet ∷ drop 1 (octets_of fields) }
 {
-    slices::write_le32(b, 0, first_word(fields));
+    slices::write_le32(b, 0, first_word(octet, fields));
     slices::write_be32(b, 4, twos_complement::bits32(fields.root_delay));
     slices::write_be32(b, 8, fields.root_dispersion);
     slices::write_be32(b, 12, fields.identifier);
@@ -123,15 +117,13 @@ fn put_fields(b: &mut [u8; LENGTH], fields: Fields)
 }
 
 // Writes the fields into the first 48 octets of the buffer.
-#[tactic(auto, using(crate::proofs::Packet::large_kept, crate::proofs::Packet::octets_written))]
+#[tactic(auto, using(crate::proofs::Packet::large_kept, crate::proofs::Packet::octets_written), unfolding(crate::specs::Packet::octets_of))]
 pub fn write(buffer: &mut [u8], fields: Fields) -> Result<(), Refusal>
     ensures answer { result ≡ write_answer buffer.old fields }
     ensures buffer { buffer.new ≡ written buffer.old fields }
 {
     let b = buffer.first_chunk_mut().ok_or(Refusal::BufferTooShort)?;
-    if field_too_large(fields) {
-        return Err(Refusal::FieldTooLarge);
-    }
-    put_fields(b, fields);
+    let octet = first_octet(fields).ok_or(Refusal::FieldTooLarge)?;
+    put_fields(b, octet, fields);
     Ok(())
 }
