@@ -1,20 +1,14 @@
 -- The calls that read and add extension fields meet their forms.
-use Rattle.refusals.specs.Given.{Given}
 use Rattle.refusals.specs.Given.{answered}
-use Rattle.refusals.specs.Given.{numbered}
-use Rattle.std.specs.Prelude.{Result}
-use Rattle.refusals.specs.declared.Refusal.{Refusal}
 use Prim.Native.Nat.{ℕ, ◌≤◌}
 use native.Mathlib.Omega.{arith}
 use mathlib.Core.Path.{refl}
 use lib.ListN.{length, take, drop}
-use Rattle.ordered_tests.specs.Tests.{kept_of}
 use Rattle.ordered_tests.proofs.Reflection.{WhereFalse, negated, at_least}
 use Rattle.extension.specs.Reader as reader
 use Rattle.extension.specs.Reader.{begin_tests, next_tests, begun}
 use Rattle.extension.proofs.Reading.{ends}
 use Rattle.extension_writer.specs.Writer.{new_length, no_room, add_tests, with_field}
-use Rattle.demands.specs.Common.{Written}
 use Rattle.demands.specs.Begin as beginning
 use Rattle.demands.specs.Begin.{begin}
 use Rattle.demands.specs.Next as stepping
@@ -24,29 +18,16 @@ use Rattle.demands.specs.Body.{body}
 use Rattle.demands.specs.Add as adding
 use Rattle.demands.specs.Add.{Add, add}
 use Rattle.demands.proofs.Facts.{begins_field_lem, only_fields, packet}
-use Rattle.demands.proofs.Form.{Meets, ◌and◌, ◌or_else◌and◌, end, by, acceptance_shown, table_answers}
+use Rattle.demands.proofs.Form.{Meets, ◌and◌, ◌or_else◌and◌, end, by, acceptance_shown, given_meets, written_meets}
 
 pub begin_meets : Meets begin beginning.ours
 unfolding begun
-begin_meets = record {
-  proper = record { refusals = λ p n l. by 1 n; others = λ p. acceptance_shown };
-  answers = table_answers begin beginning.ours begin_tests (λ p. numbered) (record {
-    is = λ p. refl;
-    refusing = λ p n. refl;
-    reflects = λ p. packet p and end refl;
-  });
-}
+begin_meets = given_meets begin_tests (by 1) (λ p. acceptance_shown) (λ p. refl) (λ p. packet p and end refl)
 
 pub next_meets : Meets next stepping.ours
 unfolding reader.next
-next_meets = record {
-  proper = record { refusals = λ x n l. by 4 n; others = λ x. (acceptance_shown, acceptance_shown) };
-  answers = table_answers next stepping.ours (λ x. next_tests (drop x.cursor.at x.packet) x.cursor.at) (λ x. numbered) (record {
-    is = λ x. refl;
-    refusing = λ x n. refl;
-    reflects = λ x. let t = drop x.cursor.at x.packet in begins_field_lem t or_else refl and negated (ends (length t)) and end refl;
-  });
-}
+next_meets = given_meets (λ x. next_tests (drop x.cursor.at x.packet) x.cursor.at) (by 4) (λ x. (acceptance_shown, acceptance_shown)) (λ x. refl)
+    (λ x. let t = drop x.cursor.at x.packet in begins_field_lem t or_else refl and negated (ends (length t)) and end refl)
 
 -- no test is made
 pub body_meets : Meets body bodies.ours
@@ -57,9 +38,6 @@ body_meets = record {
 
 -- ---- adding
 
-abbrev make : Add → Result ℕ Refusal → Written (Given ℕ)
-make x g = record { answer = numbered g; octets = kept_of g x.buffer (with_field x.buffer x.size x.field_type x.body) }
-
 room : (capacity size n : ℕ) → WhereFalse ((new_length size n ≤ capacity) × (new_length size n ≤ 1024)) (no_room capacity size n)
 unfolding no_room
 room capacity size n =
@@ -68,13 +46,6 @@ room capacity size n =
 
 pub add_meets : Meets add adding.ours
 unfolding add_tests
-add_meets = record {
-  proper = record { refusals = λ x n l. by 1 n; others = λ x. acceptance_shown };
-  answers = table_answers add adding.ours (λ x. add_tests x.buffer x.size (length x.body)) make (record {
-    is = λ x. refl;
-    refusing = λ x n. refl;
-    reflects = λ x.
-        let p = take x.size x.buffer in
-        at_least (length x.buffer) x.size and packet p and only_fields (drop 48 p) and room (length x.buffer) x.size (length x.body) and end refl;
-  });
-}
+add_meets = written_meets (λ x. x.buffer) (λ x. with_field x.buffer x.size x.field_type x.body) (λ x. add_tests x.buffer x.size (length x.body)) (λ old. by 1) (λ x. acceptance_shown) (λ x. refl) (λ x.
+    let p = take x.size x.buffer in
+    at_least (length x.buffer) x.size and packet p and only_fields (drop 48 p) and room (length x.buffer) x.size (length x.body) and end refl)

@@ -38,7 +38,7 @@ use Rattle.demands.specs.Reply.{Request, reply}
 use Rattle.demands.specs.ForC.{returned, FreshOutcome, shown_number, fresh_for_c, ours_fresh, ImageCall, ImageOutcome, IsImage, SlicesFit, Admitted, lent_after, shown, client_for_c, ours_client, RequestForC, inner_request, replying, reply_for_c, ours_reply}
 use Rattle.ordered_tests.proofs.Reflection.{WhereTrue, negated, conjoined, is_true, equal}
 use Rattle.demands.proofs.Facts.{some}
-use Rattle.demands.proofs.Form.{Meets, Each, Accepted, ShownAs, ◌and◌, end, by, acceptance_shown, kiss_shown, table_answers, map_each, wrapped_meets, Leads, ◌before◌, inner, led, same_program}
+use Rattle.demands.proofs.Form.{Meets, Each, Accepted, ShownAs, ◌and◌, end, by, acceptance_shown, kiss_shown, table_meets, map_each, wrapped_meets, Leads, ◌before◌, inner, led, same_program}
 use Rattle.demands.proofs.Legal.{legal_tested}
 use Rattle.demands.proofs.Client.{client_meets}
 use Rattle.demands.proofs.Reply.{reply_meets}
@@ -59,14 +59,8 @@ fresh_is image true e = rw e (λ i. record { number = 0; image = (layouts.laws).
 fresh_is image false e = rw e refl
 
 pub fresh_meets : Meets fresh_for_c ours_fresh
-fresh_meets = record {
-  proper = record { refusals = λ image. number_shown; others = λ image. acceptance_shown };
-  answers = table_answers fresh_for_c ours_fresh firmware.fresh_tests make (record {
-    is = λ image. fresh_is image (eqb (length image) 32) refl;
-    refusing = λ image n. refl;
-    reflects = λ image. negated (equal (length image) 32) and end refl;
-  });
-}
+fresh_meets = table_meets firmware.fresh_tests make (λ image. number_shown) (λ image. acceptance_shown)
+    (λ image. fresh_is image (eqb (length image) 32) refl) (λ image r. refl) (λ image. negated (equal (length image) 32) and end refl)
 
 -- ---- the client on an image: the test before the client's own
 

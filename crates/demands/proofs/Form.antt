@@ -4,6 +4,7 @@ use Rattle.ordered_tests.specs.Tests.{given}
 use Prim.Native.Nat.{ℕ}
 use mathlib.Core.Path.{◌≡◌, refl, sym, ap, subst, ◌∙◌}
 use mathlib.Core.Logic.{◌≢◌, ◌⊎◌, inl, inr}
+use mathlib.Core.List.{List}
 use mathlib.Core.Bool.{Bool, true, false, not, ◌&&◌}
 use native.Mathlib.Omega.{arith}
 use lib.Dec.{T}
@@ -13,10 +14,11 @@ use mir.Facts.{and_yes}
 use Rattle.std.specs.Prelude.{Result, Ok, Err}
 use Rattle.refusals.specs.declared.Refusal.{Refusal}
 use Rattle.refusals.specs.Numbers.{number, listed}
-use Rattle.refusals.specs.Given.{Given, refused, answered}
+use Rattle.refusals.specs.Given.{Given, refused, answered, numbered}
 use Rattle.refusals.proofs.Laws.{each_listed}
-use Rattle.ordered_tests.specs.Tests.{Tests, ◌if◌else◌, ◌when◌else◌, otherwise}
+use Rattle.ordered_tests.specs.Tests.{Tests, ◌if◌else◌, ◌when◌else◌, otherwise, kept_of}
 use Rattle.ordered_tests.specs.Tests as tests
+use Rattle.demands.specs.Common.{Written}
 use Rattle.demands.specs.Form.{refusal, acceptance, kiss, Shown, refused_by, Rules, ◌unless◌then◌, ◌provided◌else◌, does, refuses, Gives, Form, Implementation, outcome, Refuses, Answers}
 use Rattle.ordered_tests.proofs.Reflection.{WhereTrue, WhereFalse, contradiction}
 use Rattle.demands.specs.Wrapper.{Wrapper, map_rules, rules_of, wrapped, over, through}
@@ -216,24 +218,46 @@ reflected (◌or_else◌and◌ {b = true} p e rest) = inl (p.from tt, ap answere
 reflected (◌or_else◌and◌ {b = false} p e rest) = inr (p.to, reflected rest)
 reflected (end e) = ap answered e
 
--- `make` is what the call makes of what its table gives
-module _ (F : Form) (f : Implementation F) {A : F.Input → Type 0} (table : (i : F.Input) → Tests (A i)) (make : (i : F.Input) → Result (A i) Refusal → F.Outcome) where
-  pub record Table : Type 1 where
-    pub is : (i : F.Input) → f i ≡ make i (tests.given (table i))
-    pub refusing : (i : F.Input) (r : Refusal) → make i (Err r) ≡ F.refusing i (number r)
-    pub reflects : (i : F.Input) → Reflects (λ a. make i (Ok a)) (table i) (F.rules i)
-
-  module _ (t : Table) where
-    made : (i : F.Input) (g : Result (A i) Refusal) → make i g ≡ outcome F i (given_by (λ a. make i (Ok a)) g)
-    made i (Err r) = t.refusing i r
-    made i (Ok a) = refl
-
-    pub table_answers : Answers F f
-    table_answers = record {
+-- a call that makes its outcome of what its table gives meets its form
+module _ {F : Form} {f : Implementation F} {A : F.Input → Type 0} (table : (i : F.Input) → Tests (A i)) (make : (i : F.Input) → Result (A i) Refusal → F.Outcome) where
+  pub table_meets : ((i : F.Input) (n : ℕ) → T (listed n) → ShownAs n (F.shown (F.refusing i n))) → ((i : F.Input) → Each (Accepted F) (F.rules i))
+      → ((i : F.Input) → f i ≡ make i (tests.given (table i))) → ((i : F.Input) (r : Refusal) → make i (Err r) ≡ F.refusing i (number r))
+      → ((i : F.Input) → Reflects (λ a. make i (Ok a)) (table i) (F.rules i)) → Meets F f
+  table_meets refusals others is refusing reflects = record {
+    proper = record { refusals = refusals; others = others };
+    answers = record {
       given = λ i. given_by (λ a. make i (Ok a)) (tests.given (table i));
-      by_rules = λ i. reflected (t.reflects i);
-      done = λ i. t.is i ∙ made i (tests.given (table i));
-    }
+      by_rules = λ i. reflected (reflects i);
+      done = λ i. is i ∙ made i (tests.given (table i));
+    };
+  }
+    where
+      made : (i : F.Input) (g : Result (A i) Refusal) → make i g ≡ outcome F i (given_by (λ a. make i (Ok a)) g)
+      made i (Err r) = refusing i r
+      made i (Ok a) = refl
+
+-- so does one whose outcome is what its table gives
+abbrev of_given : {I A : Type 0} → (Given A → Shown) → (I → Rules (Given A)) → Form
+of_given {I} {A} shown rules = record { Input = I; Outcome = Given A; shown = shown; refusing = λ i. refused; rules = rules }
+
+pub given_meets : {I A : Type 0} {shown : Given A → Shown} {rules : I → Rules (Given A)} {f : I → Given A} (table : I → Tests A) → ((n : ℕ) → ShownAs n (shown (refused n)))
+    → ((i : I) → Each (Accepted (of_given shown rules)) (rules i)) → ((i : I) → f i ≡ numbered (tests.given (table i)))
+    → ((i : I) → Reflects answered (table i) (rules i)) → Meets (of_given shown rules) f
+given_meets table refusals others is reflects = table_meets table (λ i. numbered) (λ i n l. refusals n) others is (λ i r. refl) reflects
+
+-- and one that answers what its table gives and, unless it refuses, leaves other octets in a buffer that it is lent
+module _ {I A : Type 0} (buffer : I → List ℕ) where
+  abbrev of_written : (Written (Given A) → Shown) → (I → Rules (Written (Given A))) → Form
+  of_written shown rules = record { Input = I; Outcome = Written (Given A); shown = shown; refusing = λ i n. record { answer = refused n; octets = buffer i }; rules = rules }
+
+  abbrev writes : (I → List ℕ) → I → Result A Refusal → Written (Given A)
+  writes octets i g = record { answer = numbered g; octets = kept_of g (buffer i) (octets i) }
+
+  pub written_meets : {shown : Written (Given A) → Shown} {rules : I → Rules (Written (Given A))} {f : I → Written (Given A)} (octets : I → List ℕ) (table : I → Tests A)
+      → ((old : List ℕ) (n : ℕ) → ShownAs n (shown (record { answer = refused n; octets = old }))) → ((i : I) → Each (Accepted (of_written shown rules)) (rules i))
+      → ((i : I) → f i ≡ writes octets i (tests.given (table i)))
+      → ((i : I) → Reflects (λ a. record { answer = answered a; octets = octets i }) (table i) (rules i)) → Meets (of_written shown rules) f
+  written_meets octets table refusals others is reflects = table_meets table (writes octets) (λ i n l. refusals (buffer i) n) others is (λ i r. refl) reflects
 
 -- ---- a call around a call
 

@@ -1,6 +1,4 @@
 -- The arithmetic of four timestamps meets its form.
-use Rattle.refusals.specs.Given.{numbered}
-use Rattle.offset.specs.declared.Measurement.{Measurement}
 use Prim.Native.Nat.{◌^◌}
 use mathlib.Core.Path.{refl}
 use native.Mathlib.Omega.{arith}
@@ -15,7 +13,7 @@ use Rattle.demands.specs.Form.{Rules}
 use Rattle.demands.specs.Measure.{Four, P, Q, d, four_rules, measure, ours}
 use Rattle.ordered_tests.proofs.Reflection.{WhereFalse}
 use Rattle.demands.proofs.Facts.{in_order}
-use Rattle.demands.proofs.Form.{Meets, Reflects, ◌and◌, end, by, acceptance_shown, table_answers}
+use Rattle.demands.proofs.Form.{Meets, Reflects, ◌and◌, end, by, acceptance_shown, given_meets}
 
 pub not_negative : (z : ℤ) → WhereFalse (pos 0 ≤ℤ z) (negative z)
 not_negative z = record { to = λ h. omega (arith, integers); from = λ t. omega (arith, integers) }
@@ -48,16 +46,6 @@ four_rows x rest =
     and at_most (Q x) (P x)
     and rest
 
-abbrev table : Four → Tests Measurement
-table x = offset_tests (x.t4 since x.t1) (x.t3 since x.t2) (P x) (Q x)
-
 pub measure_meets : Meets measure ours
 unfolding measured offset_tests
-measure_meets = record {
-  proper = record { refusals = λ x n l. by 3 n; others = λ x. acceptance_shown };
-  answers = table_answers measure ours table (λ x. numbered) (record {
-    is = λ x. refl;
-    refusing = λ x n. refl;
-    reflects = λ x. four_rows x (end refl);
-  });
-}
+measure_meets = given_meets (λ x. offset_tests (x.t4 since x.t1) (x.t3 since x.t2) (P x) (Q x)) (by 3) (λ x. acceptance_shown) (λ x. refl) (λ x. four_rows x (end refl))

@@ -1,33 +1,18 @@
 -- The server's reply meets its form.
-use Rattle.refusals.specs.Given.{Given}
-use Rattle.refusals.specs.Given.{numbered}
-use Rattle.std.specs.Prelude.{Result}
-use Rattle.refusals.specs.declared.Refusal.{Refusal}
 use mathlib.Core.Path.{refl}
 use mathlib.Core.List.{◌++◌}
 use lib.IntN.{pos, neg_ℤ}
 use lib.ListN.{length, drop}
-use Rattle.ordered_tests.specs.Tests.{Tests, kept_of}
 use Rattle.timestamp.specs.Timestamp.{◌since◌}
 use Rattle.packet.specs.Packet.{fields_of, octets_of}
 use Rattle.server_packet.specs.declared.Settings.{Settings}
 use Rattle.server_packet.specs.Packet.{out_of_range}
 use Rattle.server.specs.Server.{request_tests, reply_tests, reply_fields, replied, replied_buffer}
-use Rattle.demands.specs.Common.{Written}
-use Rattle.demands.specs.Reply.{Request, LegallySet, reply, ours}
+use Rattle.demands.specs.Reply.{LegallySet, reply, ours}
 use Rattle.ordered_tests.proofs.Reflection.{WhereFalse, negated, both, guarded, is_true, at_least, equal, within}
 use Rattle.demands.proofs.Facts.{available, in_order, packet}
-use Rattle.demands.proofs.Form.{Meets, ◌and◌, end, by, acceptance_shown, table_answers}
+use Rattle.demands.proofs.Form.{Meets, ◌and◌, end, by, acceptance_shown, written_meets}
 use Rattle.demands.proofs.Measure.{not_negative, at_most}
-
-abbrev table : Request → Tests (Unit {0})
-table x = reply_tests x.settings x.request x.t2 x.t3 x.buffer
-
-abbrev make : Request → Result (Unit {0}) Refusal → Written (Given (Unit {0}))
-make x g = record {
-  answer = numbered g;
-  octets = kept_of g x.buffer (octets_of (reply_fields x.settings (fields_of x.request) x.t2 x.t3) ++ drop 48 x.buffer);
-}
 
 pub legally_set : (s : Settings) → WhereFalse (LegallySet s) (out_of_range s)
 unfolding out_of_range
@@ -40,12 +25,8 @@ legally_set s =
 
 pub reply_meets : Meets reply ours
 unfolding replied replied_buffer reply_tests request_tests
-reply_meets = record {
-  proper = record { refusals = λ x n l. by 0 n; others = λ x. acceptance_shown };
-  answers = table_answers reply ours table make (record {
-    is = λ x. refl;
-    refusing = λ x n. refl;
-    reflects = λ x.
+reply_meets = written_meets (λ x. x.buffer) (λ x. octets_of (reply_fields x.settings (fields_of x.request) x.t2 x.t3) ++ drop 48 x.buffer)
+    (λ x. reply_tests x.settings x.request x.t2 x.t3 x.buffer) (λ old. by 0) (λ x. acceptance_shown) (λ x. refl) (λ x.
         let synchronised = is_true x.settings.synchronised in
         at_least (length x.buffer) 48
         and packet x.request
@@ -55,6 +36,4 @@ reply_meets = record {
         and guarded synchronised (both (available x.t2) (available x.t3))
         and guarded synchronised (in_order (x.t3 since x.t2))
         and guarded synchronised (not_negative (x.t3 since x.t2))
-        and end refl;
-  });
-}
+        and end refl)

@@ -1,5 +1,4 @@
 -- Unix times of timestamps and timestamps of Unix times meet their forms.
-use Rattle.refusals.specs.Given.{numbered}
 use Prim.Native.Nat.{◌^◌}
 use mathlib.Core.Path.{refl}
 use lib.IntN.{ℤ, pos, negsuc}
@@ -12,18 +11,11 @@ use Rattle.demands.specs.TimestampOfUnix as back
 use Rattle.demands.specs.TimestampOfUnix.{timestamp_of_unix}
 use Rattle.ordered_tests.proofs.Reflection.{WhereTrue, negated, conjoined, below}
 use Rattle.demands.proofs.Facts.{available}
-use Rattle.demands.proofs.Form.{Meets, ◌and◌, end, by, acceptance_shown, table_answers}
+use Rattle.demands.proofs.Form.{Meets, ◌and◌, end, by, acceptance_shown, given_meets}
 
 pub unix_time_meets : Meets unix_time unix.ours
 unfolding unix_time_of
-unix_time_meets = record {
-  proper = record { refusals = λ t n l. by 2 n; others = λ t. acceptance_shown };
-  answers = table_answers unix_time unix.ours unix_time_tests (λ t. numbered) (record {
-    is = λ t. refl;
-    refusing = λ t n. refl;
-    reflects = λ t. available t and end refl;
-  });
-}
+unix_time_meets = given_meets unix_time_tests (by 2) (λ t. acceptance_shown) (λ t. refl) (λ t. available t and end refl)
 
 not_later : (y z : ℤ) → WhereTrue (y ≤ℤ z) (le_z y z)
 not_later y z = record { to = λ l. l.le; from = λ t. record { le = t } }
@@ -36,11 +28,5 @@ window_tested (negsuc n) = record { to = λ w. w.0.le; from = λ t. absurd t }
 
 pub timestamp_of_unix_meets : Meets timestamp_of_unix back.ours
 unfolding timestamp_of
-timestamp_of_unix_meets = record {
-  proper = record { refusals = λ u n l. by 1 n; others = λ u. acceptance_shown };
-  answers = table_answers timestamp_of_unix back.ours timestamp_tests (λ u. numbered) (record {
-    is = λ u. refl;
-    refusing = λ u n. refl;
-    reflects = λ u. below u.nanoseconds (10 ^ 9) and negated (window_tested (from_year0 u.seconds)) and available (timestamp_at u) and end refl;
-  });
-}
+timestamp_of_unix_meets = given_meets timestamp_tests (by 1) (λ u. acceptance_shown) (λ u. refl)
+    (λ u. below u.nanoseconds (10 ^ 9) and negated (window_tested (from_year0 u.seconds)) and available (timestamp_at u) and end refl)
