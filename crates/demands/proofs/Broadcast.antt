@@ -14,13 +14,13 @@ use Rattle.demands.proofs.Reply.{legally_set}
 pub broadcast_meets : Meets broadcast ours_broadcast
 unfolding broadcast_written broadcast_buffer write_tests
 broadcast_meets = written_meets (λ x. x.buffer) (λ x. octets_of (broadcast_fields x) ++ drop 48 x.buffer)
-    (λ x. write_tests x.settings x.version x.poll x.t3 (length x.buffer)) (λ old. by 0) (λ x. acceptance_shown) (λ x. refl) (λ x.
-        at_least (length x.buffer) 48
-        and negated (within 1 4 x.version)
-        and legally_set x.settings
-        and negated (within 4 14 x.poll)
-        and guarded (is_true x.settings.synchronised) (available x.t3)
-        and end refl)
+    (λ x. write_tests x.settings x.version x.poll x.t3 (length x.buffer)) (λ old. by 0) (λ x. acceptance_shown) (λ x. refl)
+    (λ x. at_least (length x.buffer) 48
+    and negated (within 1 4 x.version)
+    and legally_set x.settings
+    and negated (within 4 14 x.poll)
+    and guarded (is_true x.settings.synchronised) (available x.t3)
+    and end refl)
 
 pub broadcast_arrival_meets : Meets broadcast_arrival ours_arrival
 unfolding broadcast_arrived field_tests

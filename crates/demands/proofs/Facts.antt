@@ -83,33 +83,24 @@ of_48 p e = (packet p).from ((is_false (is_malformed p)).to (tails.of_48 p e))
 
 -- ---- phases
 
-module _ (is : Phase → Bool) (q : Phase) (itself : T (is q)) (alone : (p : Phase) → T (is p) → p ≡ q) where
+-- a test that holds of one phase alone decides whether a phase is that one
+module _ (is : Phase → Bool) (q : Phase) (itself : T (is q)) (idle : T (is Idle) → Idle ≡ q) (waiting : T (is Waiting) → Waiting ≡ q) (stopped : T (is Stopped) → Stopped ≡ q) where
+  alone : (p : Phase) → T (is p) → p ≡ q
+  alone Idle = idle
+  alone Waiting = waiting
+  alone Stopped = stopped
+
   phase : (p : Phase) → WhereTrue (p ≡ q) (is p)
   phase p = record { to = λ e. subst (λ x. T (is x)) (sym e) itself; from = alone p }
 
 pub idle : (p : Phase) → WhereTrue (p ≡ Idle) (is_idle p)
-idle = phase is_idle Idle tt alone
-  where
-    alone : (p : Phase) → T (is_idle p) → p ≡ Idle
-    alone Idle t = refl
-    alone Waiting t = absurd t
-    alone Stopped t = absurd t
+idle = phase is_idle Idle tt (λ t. refl) (λ t. absurd t) (λ t. absurd t)
 
 pub waiting : (p : Phase) → WhereTrue (p ≡ Waiting) (is_waiting p)
-waiting = phase is_waiting Waiting tt alone
-  where
-    alone : (p : Phase) → T (is_waiting p) → p ≡ Waiting
-    alone Idle t = absurd t
-    alone Waiting t = refl
-    alone Stopped t = absurd t
+waiting = phase is_waiting Waiting tt (λ t. absurd t) (λ t. refl) (λ t. absurd t)
 
 pub stopped : (p : Phase) → WhereTrue (p ≡ Stopped) (is_stopped p)
-stopped = phase is_stopped Stopped tt alone
-  where
-    alone : (p : Phase) → T (is_stopped p) → p ≡ Stopped
-    alone Idle t = absurd t
-    alone Waiting t = absurd t
-    alone Stopped t = refl
+stopped = phase is_stopped Stopped tt (λ t. absurd t) (λ t. absurd t) (λ t. refl)
 
 -- ---- uptimes
 

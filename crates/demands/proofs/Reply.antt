@@ -26,14 +26,13 @@ legally_set s =
 pub reply_meets : Meets reply ours
 unfolding replied replied_buffer reply_tests request_tests
 reply_meets = written_meets (λ x. x.buffer) (λ x. octets_of (reply_fields x.settings (fields_of x.request) x.t2 x.t3) ++ drop 48 x.buffer)
-    (λ x. reply_tests x.settings x.request x.t2 x.t3 x.buffer) (λ old. by 0) (λ x. acceptance_shown) (λ x. refl) (λ x.
-        let synchronised = is_true x.settings.synchronised in
-        at_least (length x.buffer) 48
-        and packet x.request
-        and negated (equal (fields_of x.request).mode 3)
-        and negated (within 1 4 (fields_of x.request).version)
-        and legally_set x.settings
-        and guarded synchronised (both (available x.t2) (available x.t3))
-        and guarded synchronised (in_order (x.t3 since x.t2))
-        and guarded synchronised (not_negative (x.t3 since x.t2))
-        and end refl)
+    (λ x. reply_tests x.settings x.request x.t2 x.t3 x.buffer) (λ old. by 0) (λ x. acceptance_shown) (λ x. refl)
+    (λ x. at_least (length x.buffer) 48
+    and packet x.request
+    and negated (equal (fields_of x.request).mode 3)
+    and negated (within 1 4 (fields_of x.request).version)
+    and legally_set x.settings
+    and guarded (is_true x.settings.synchronised) (both (available x.t2) (available x.t3))
+    and guarded (is_true x.settings.synchronised) (in_order (x.t3 since x.t2))
+    and guarded (is_true x.settings.synchronised) (not_negative (x.t3 since x.t2))
+    and end refl)

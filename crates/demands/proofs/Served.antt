@@ -75,9 +75,9 @@ front f rest =
     let l = length_octets_of f in
     take-append-le 48 (octets_of f) rest (omega arith) ∙ take_all 48 (octets_of f) (omega arith)
 
--- an identifier and a reference timestamp that are values of their types have the octets of any others
-abbrev pub typed : Fields → Fields
-typed f = record {
+-- fields with another identifier and reference timestamp
+abbrev pub identified : Fields → ℕ → Timestamp → Fields
+identified f identifier reference = record {
   leap = f.leap;
   version = f.version;
   mode = f.mode;
@@ -86,12 +86,16 @@ typed f = record {
   precision = f.precision;
   root_delay = f.root_delay;
   root_dispersion = f.root_dispersion;
-  identifier = f.identifier % 256 ^ 4;
-  reference = timestamp (f.reference.0 % 256 ^ 8);
+  identifier = identifier;
+  reference = reference;
   originate = f.originate;
   receive = f.receive;
   transmit = f.transmit;
 }
+
+-- an identifier and a reference timestamp that are values of their types have the octets of any others
+abbrev pub typed : Fields → Fields
+typed f = identified f (f.identifier % 256 ^ 4) (timestamp (f.reference.0 % 256 ^ 8))
 
 typed_octets : (f : Fields) → octets_of (typed f) ≡ octets_of f
 unfolding octets_of
@@ -102,21 +106,7 @@ pub typed_is : (f : Fields) → f.identifier < 2 ^ 32 → f.reference.0 < 2 ^ 64
 typed_is f id rf =
     let e : f.identifier % 256 ^ 4 ≡ f.identifier = mod-eq_of_lt (omega arith) in
     let r : f.reference.0 % 256 ^ 8 ≡ f.reference.0 = mod-eq_of_lt (omega arith) in
-    λ i. record {
-      leap = f.leap;
-      version = f.version;
-      mode = f.mode;
-      stratum = f.stratum;
-      poll = f.poll;
-      precision = f.precision;
-      root_delay = f.root_delay;
-      root_dispersion = f.root_dispersion;
-      identifier = e i;
-      reference = timestamp (r i);
-      originate = f.originate;
-      receive = f.receive;
-      transmit = f.transmit;
-    }
+    λ i. identified f (e i) (timestamp (r i))
 
 -- the fields of a packet, of which those that depend on whether the server is synchronised are given
 abbrev packet_with : Settings → Message → (leap stratum identifier : ℕ) → (reference receive transmit : Timestamp) → Fields
