@@ -2,15 +2,13 @@
 use Rattle.reply_checks.specs.declared.ArrivalAnswer.{ArrivalAnswer}
 use Rattle.ordered_tests.specs.Tests.{given}
 use Prim.Native.Nat.{ℕ}
-use mathlib.Core.Path.{◌≡◌, refl, ap, subst, ◌∙◌}
+use mathlib.Core.Path.{◌≡◌, refl, ap, ◌∙◌}
 use mathlib.Core.Bool.{Bool, true, false}
 use mathlib.Core.List.{List, [], ◌∷◌}
-use native.Mathlib.Omega.{arith}
 use lib.ListN.{length, set}
 use lib.Seq.{set-get_or}
 use Rattle.std.specs.Prelude.{Result, Ok, Err}
 use Rattle.refusals.specs.declared.Refusal.{Refusal}
-use Rattle.refusals.specs.declared.Refusal.TheVariants.{NotInList, RecordNotLegal}
 use Rattle.ordered_tests.specs.Tests.{Tests, otherwise}
 use Rattle.ordered_tests.specs.Tests as tests
 use Rattle.client.specs.declared.Client.{Client}
@@ -21,12 +19,11 @@ use Rattle.association_rules.specs.Associations.{any_illegal, list_tests, altern
 use Rattle.association_rules.specs.InUse.{outside, exists}
 use Rattle.client.specs.Ask.{after_ask}
 use Rattle.client.specs.GiveUp.{gave_up}
-use Rattle.demands.specs.Wrapper.{Wrapper, wrapped, through}
 use Rattle.demands.specs.Client as clients
 use Rattle.demands.specs.Client.{call_rules, client}
 use Rattle.demands.specs.Associations.{ListCall, ask, arrival, give_up, ListInput, ListOutcome, InList, AllLegal, use_after, at_record, placed, associations, ours}
 use Rattle.ordered_tests.proofs.Reflection.{WhereFalse, negated, both, is_false, is_below, within}
-use Rattle.demands.proofs.Form.{Meets, Each, Accepted, by, acceptance_shown, kiss_shown, Wraps, wrapped_meets, Leads, ◌before◌, inner, led}
+use Rattle.demands.proofs.Form.{Meets, Each, Accepted, by, acceptance_shown, kiss_shown, Leads, ◌before◌, inner, around, around_meets}
 use Rattle.demands.proofs.Legal.{legal}
 use Rattle.demands.proofs.Client.{client_meets}
 
@@ -52,34 +49,12 @@ all_legal (c ∷ rest) = both (legal c) (all_legal rest)
 abbrev table : ListInput → Tests (Client × calls.Call)
 table i = list_tests i.list i.at i.in_use (otherwise (at_record i))
 
-abbrev listing : Wrapper client
-listing = record {
-  Input = ListInput;
-  Outcome = ListOutcome;
-  shown = associations.shown;
-  refusing = associations.refusing;
-  read = λ i. tests.given (table i);
-  show = placed;
-}
-
-leads : (i : ListInput) → Leads client (placed i) (table i) (associations.rules i)
+leads : (i : ListInput) → Leads client (at_record i) (placed i) (table i) (associations.rules i)
 leads i = in_list i.list i.at i.in_use before all_legal i.list before inner
 
 module _ (i : ListInput) where
-  -- the tests before the client's give 35, 29, or the client's call at the record
-  decided : (P : Result (Client × calls.Call) Refusal → Type 0) → P (Err NotInList) → P (Err RecordNotLegal) → P (Ok (at_record i)) → P (tests.given (table i))
-  decided P out illegal in-it = go (outside (length i.list) i.at i.in_use) (any_illegal i.list) refl refl
-    where
-      go : (a b : Bool) → outside (length i.list) i.at i.in_use ≡ a → any_illegal i.list ≡ b → P (tests.given (table i))
-      go true b e f = rw e out
-      go false true e f = rw (e, f) illegal
-      go false false e f = rw (e, f) in-it
-
-  refused_so : (x : Client × calls.Call) (n : ℕ) → tests.given (table i) ≡ Ok x → placed i (client.refusing x n) ≡ associations.refusing i n
-  refused_so x n = decided (λ g. g ≡ Ok x → placed i (client.refusing x n) ≡ associations.refusing i n)
-      (λ e. let z : ◌≡◌ {A = ℕ} 0 1 = cc in absurd (omega arith))
-      (λ e. let z : ◌≡◌ {A = ℕ} 0 1 = cc in absurd (omega arith))
-      (λ e. let s : at_record i ≡ x = cc in subst (λ y. placed i (client.refusing y n) ≡ associations.refusing i n) s (same i.call refl))
+  refused_so : (n : ℕ) → placed i (client.refusing (at_record i) n) ≡ associations.refusing i n
+  refused_so n = same i.call refl
     where
       same : (x : ListCall) → i.call ≡ x → placed i (client.refusing (at_record i) n) ≡ associations.refusing i n
       same (ask x) e = rw e (λ j. record { result = calls.refused n; list = set-get_or i.list i.at fresh j; in_use = i.in_use; octets = x.buffer })
@@ -100,7 +75,7 @@ module _ (i : ListInput) where
   abbrev in_use : calls.Outcome → ℕ → ListOutcome
   in_use o n = record { result = o.result; list = set i.list i.at o.next; in_use = n; octets = o.octets }
 
-  by_call : (x : ListCall) → i.call ≡ x → (a b : Bool) → outside (length i.list) i.at i.in_use ≡ a → any_illegal i.list ≡ b → ours i ≡ through client listing clients.ours i
+  by_call : (x : ListCall) → i.call ≡ x → (a b : Bool) → outside (length i.list) i.at i.in_use ≡ a → any_illegal i.list ≡ b → ours i ≡ around client associations clients.ours placed i (tests.given (table i))
   unfolding asked_for list_after_ask buffer_after_ask gave_up_for list_after_give_up arrived_for list_after_arrival
   by_call (ask x) c true b e f = rw (c, e) refl
   by_call (ask x) c false true e f = rw (c, e, f) refl
@@ -114,7 +89,7 @@ module _ (i : ListInput) where
   by_call (give_up x) c false true e f = rw (c, e, f) refl
   by_call (give_up x) c false false e f = rw (c, e, f) (ap (in_use (calls.gives_up (at_record i).0 x)) (call_use (gave_up (at_record i).0 x.uptime).answer))
 
-  is_ours : ours i ≡ through client listing clients.ours i
+  is_ours : ours i ≡ around client associations clients.ours placed i (tests.given (table i))
   is_ours = by_call i.call refl (outside (length i.list) i.at i.in_use) (any_illegal i.list) refl refl
 
   -- in the list and with all records legal, the client's call is made at the record
@@ -129,27 +104,5 @@ shows_accepted i c (calls.ask x) = acceptance_shown
 shows_accepted i c (calls.arrival x) = (kiss_shown, acceptance_shown)
 shows_accepted i c (calls.give_up x) = acceptance_shown
 
-wraps : Wraps client_meets listing
-wraps = record {
-  refusing = refused_so;
-  refusals = λ i n l. by 8 n;
-  others = λ i (c, x) e. shows_accepted i c x;
-}
-
-around : Meets (wrapped client listing) (through client listing clients.ours)
-around = wrapped_meets client_meets listing wraps
-
 pub associations_meets : Meets associations ours
-associations_meets = record {
-  proper = record { refusals = λ i n l. by 8 n; others = λ i. accepted_at i i.call refl };
-  answers = record {
-    given = around.answers.given;
-    by_rules = λ i. led client listing i (leads i) (around.answers.given i) (around.answers.by_rules i);
-    done = λ i. is_ours i ∙ around.answers.done i;
-  };
-}
-  where
-    accepted_at : (i : ListInput) (x : ListCall) → i.call ≡ x → Each (Accepted associations) (associations.rules i)
-    accepted_at i (ask x) e = rw e acceptance_shown
-    accepted_at i (arrival x) e = rw e (kiss_shown, acceptance_shown)
-    accepted_at i (give_up x) e = rw e acceptance_shown
+associations_meets = around_meets client_meets at_record placed leads is_ours refused_so (λ i n l. by 8 n) (λ i. shows_accepted i (at_record i).0 (at_record i).1)

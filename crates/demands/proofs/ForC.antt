@@ -29,16 +29,15 @@ use Rattle.firmware.specs.Numbers.{number_of}
 use Rattle.firmware.specs.Client as firmware
 use Rattle.firmware.specs.Client.{LentCall, ask, arrival, give_up}
 use Rattle.demands.specs.Form.{refusal, kiss, acceptance, Rules, ◌unless◌then◌, ◌provided◌else◌, does, refuses}
-use Rattle.demands.specs.Wrapper.{Wrapper, wrapped, through}
 use Rattle.demands.specs.Client as clients
 use Rattle.demands.specs.Client.{call_rules, client}
 use Rattle.server.specs.Server.{replied, replied_buffer}
 use Rattle.demands.specs.Reply as replies
 use Rattle.demands.specs.Reply.{Request, reply}
-use Rattle.demands.specs.ForC.{returned, FreshOutcome, shown_number, fresh_for_c, ours_fresh, ImageCall, ImageOutcome, IsImage, SlicesFit, Admitted, lent_after, shown, client_for_c, ours_client, RequestForC, inner_request, replying, reply_for_c, ours_reply}
+use Rattle.demands.specs.ForC.{returned, FreshOutcome, shown_number, fresh_for_c, ours_fresh, ImageCall, IsImage, SlicesFit, Admitted, lent_after, shown, client_for_c, ours_client, RequestForC, inner_request, replying, reply_for_c, ours_reply}
 use Rattle.ordered_tests.proofs.Reflection.{WhereTrue, negated, conjoined, is_true, equal}
 use Rattle.demands.proofs.Facts.{some}
-use Rattle.demands.proofs.Form.{Meets, Each, Accepted, ShownAs, ◌and◌, end, by, acceptance_shown, kiss_shown, table_meets, map_each, wrapped_meets, Leads, ◌before◌, inner, led, same_program}
+use Rattle.demands.proofs.Form.{Meets, Each, Accepted, ShownAs, ◌and◌, end, by, acceptance_shown, kiss_shown, table_meets, wrapped_meets, Leads, ◌before◌, inner, around, around_meets, same_program}
 use Rattle.demands.proofs.Legal.{legal_tested}
 use Rattle.demands.proofs.Client.{client_meets}
 use Rattle.demands.proofs.Reply.{reply_meets}
@@ -102,42 +101,20 @@ at_record i = (record_in i.image, firmware.inner i.call)
 abbrev table : ImageCall → Tests (Client × calls.Call)
 table i = firmware.image_tests i.image i.call (otherwise (at_record i))
 
-abbrev lending : Wrapper client
-lending = record {
-  Input = ImageCall;
-  Outcome = ImageOutcome;
-  shown = shown;
-  refusing = client_for_c.refusing;
-  read = λ i. tests.given (table i);
-  show = lent_after;
-}
-
-leads : (i : ImageCall) → Leads client (lent_after i) (table i) (client_for_c.rules i)
+leads : (i : ImageCall) → Leads client (at_record i) (lent_after i) (table i) (client_for_c.rules i)
 leads i = negated (admitted_tested i) before inner
 
 module _ (i : ImageCall) where
-  decided : (P : Result (Client × calls.Call) Refusal → Type 0) → P (Err ImageNotLegal) → P (Ok (at_record i)) → P (tests.given (table i))
-  decided P out in-it = go (firmware.admitted i.image i.call) refl
-    where
-      go : (b : Bool) → firmware.admitted i.image i.call ≡ b → P (tests.given (table i))
-      go true e = rw e in-it
-      go false e = rw e out
-
   -- an inner refusal is a refusal by the same number
   pub refused_in : (c : Client) (n : ℕ) → lent_after i (client.refusing (c, firmware.inner i.call) n) ≡ client_for_c.refusing i n
   unfolding answer_in
   refused_in c n = refl
 
-  refused_so : (x : Client × calls.Call) (n : ℕ) → tests.given (table i) ≡ Ok x → lent_after i (client.refusing x n) ≡ client_for_c.refusing i n
-  refused_so x n = decided (λ g. g ≡ Ok x → lent_after i (client.refusing x n) ≡ client_for_c.refusing i n)
-      (λ e. let z : ◌≡◌ {A = ℕ} 0 1 = cc in absurd (omega arith))
-      (λ e. let s : at_record i ≡ x = cc in subst (λ y. lent_after i (client.refusing y n) ≡ client_for_c.refusing i n) s (refused_in (record_in i.image) n))
-
-  is_ours : ours_client i ≡ through client lending clients.ours i
+  is_ours : ours_client i ≡ around client client_for_c clients.ours lent_after i (tests.given (table i))
   unfolding firmware.number firmware.image_after firmware.buffer_after firmware.answer_after
   is_ours = go (firmware.admitted i.image i.call) refl
     where
-      go : (b : Bool) → firmware.admitted i.image i.call ≡ b → ours_client i ≡ through client lending clients.ours i
+      go : (b : Bool) → firmware.admitted i.image i.call ≡ b → ours_client i ≡ around client client_for_c clients.ours lent_after i (tests.given (table i))
       go true e = rw e refl
       go false e = rw e refl
 
@@ -174,25 +151,8 @@ module _ (i : ImageCall) where
   refusal_shown : (n : ℕ) → T (listed n) → ShownAs n (shown (client_for_c.refusing i n))
   refusal_shown n l = rw (not_0 n l) (by (length (firmware.lent_answer i.call)) n)
 
-around : Meets (wrapped client lending) (through client lending clients.ours)
-around = wrapped_meets client_meets lending (record {
-  refusing = refused_so;
-  refusals = refusal_shown;
-  others = λ i (c, x) e. shows_accepted i c x;
-})
-
 pub client_for_c_meets : Meets client_for_c ours_client
-client_for_c_meets = record {
-  proper = record {
-    refusals = refusal_shown;
-    others = λ i. map_each client_meets lending (lent_after i) (Accepted client_for_c) (call_rules (at_record i).0 (at_record i).1) (shows_accepted i (at_record i).0 (at_record i).1);
-  };
-  answers = record {
-    given = around.answers.given;
-    by_rules = λ i. led client lending i (leads i) (around.answers.given i) (around.answers.by_rules i);
-    done = λ i. is_ours i ∙ around.answers.done i;
-  };
-}
+client_for_c_meets = around_meets client_meets at_record lent_after leads is_ours (λ i. refused_in i (record_in i.image)) refusal_shown (λ i. shows_accepted i (at_record i).0 (at_record i).1)
 
 -- ---- the server
 

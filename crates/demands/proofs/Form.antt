@@ -261,32 +261,33 @@ module _ {I A : Type 0} (buffer : I → List ℕ) where
 
 -- ---- a call around a call
 
+mapped : {A B : Type 0} (h : A → B) (r : Rules A) (g : Given A) → Gives r g → Gives (map_rules h r) (map_given h g)
+mapped h (n unless P then rest) g (inl (x, e)) = inl (x, ap (map_given h) e)
+mapped h (n unless P then rest) g (inr (p, q)) = inr (p, mapped h rest g q)
+mapped h (o provided P else rest) g (inl (p, e)) = inl (p, ap (map_given h) e)
+mapped h (o provided P else rest) g (inr (x, q)) = inr (x, mapped h rest g q)
+mapped h (does o) g e = ap (map_given h) e
+mapped h (refuses n) g e = ap (map_given h) e
+
+pub map_each : {A B : Type 0} (h : A → B) (Q : B → Type 0) (r : Rules A) → Each (λ a. Q (h a)) r → Each Q (map_rules h r)
+map_each h Q (n unless P then rest) a = map_each h Q rest a
+map_each h Q (o provided P else rest) (first, others) = (first, map_each h Q rest others)
+map_each h Q (does o) a = a
+map_each h Q (refuses n) a = a
+
+-- what is given of what is read: a refusal, or what the inner call's rules give with something made of it
+abbrev inner_given : {F : Form} {f : Implementation F} {O : Type 0} → Meets F f → (F.Outcome → O) → Result F.Input Refusal → Given O
+inner_given m show (Err r) = refused (number r)
+inner_given m show (Ok x) = map_given show (m.answers.given x)
+
 module _ {F : Form} {f : Implementation F} (m : Meets F f) (W : Wrapper F) where
   pub record Wraps : Type 0 where
     pub refusing : (i : W.Input) (x : F.Input) (n : ℕ) → W.read i ≡ Ok x → W.show i (F.refusing x n) ≡ W.refusing i n
     pub refusals : (i : W.Input) (n : ℕ) → T (listed n) → ShownAs n (W.shown (W.refusing i n))
     pub others : (i : W.Input) (x : F.Input) → W.read i ≡ Ok x → Each (λ o. Accepted (wrapped F W) (W.show i o)) (F.rules x)
 
-  mapped : {A B : Type 0} (h : A → B) (r : Rules A) (g : Given A) → Gives r g → Gives (map_rules h r) (map_given h g)
-  mapped h (n unless P then rest) g (inl (x, e)) = inl (x, ap (map_given h) e)
-  mapped h (n unless P then rest) g (inr (p, q)) = inr (p, mapped h rest g q)
-  mapped h (o provided P else rest) g (inl (p, e)) = inl (p, ap (map_given h) e)
-  mapped h (o provided P else rest) g (inr (x, q)) = inr (x, mapped h rest g q)
-  mapped h (does o) g e = ap (map_given h) e
-  mapped h (refuses n) g e = ap (map_given h) e
-
-  pub map_each : {A B : Type 0} (h : A → B) (Q : B → Type 0) (r : Rules A) → Each (λ a. Q (h a)) r → Each Q (map_rules h r)
-  map_each h Q (n unless P then rest) a = map_each h Q rest a
-  map_each h Q (o provided P else rest) (first, others) = (first, map_each h Q rest others)
-  map_each h Q (does o) a = a
-  map_each h Q (refuses n) a = a
-
   module _ (w : Wraps) where
-    abbrev given_at : (i : W.Input) → Result F.Input Refusal → Given W.Outcome
-    given_at i (Err r) = refused (number r)
-    given_at i (Ok x) = map_given (W.show i) (m.answers.given x)
-
-    by_rules_at : (i : W.Input) (g : Result F.Input Refusal) → Gives (rules_of F W i g) (given_at i g)
+    by_rules_at : (i : W.Input) (g : Result F.Input Refusal) → Gives (rules_of F W i g) (inner_given m (W.show i) g)
     by_rules_at i (Err r) = refl
     by_rules_at i (Ok x) = mapped (W.show i) (F.rules x) (m.answers.given x) (m.answers.by_rules x)
 
@@ -294,7 +295,7 @@ module _ {F : Form} {f : Implementation F} (m : Meets F f) (W : Wrapper F) where
     shown_at i x e (refused n) = w.refusing i x n e
     shown_at i x e (answered o) = refl
 
-    done_at : (i : W.Input) (g : Result F.Input Refusal) → W.read i ≡ g → over F W f i g ≡ outcome (wrapped F W) i (given_at i g)
+    done_at : (i : W.Input) (g : Result F.Input Refusal) → W.read i ≡ g → over F W f i g ≡ outcome (wrapped F W) i (inner_given m (W.show i) g)
     done_at i (Err r) e = refl
     done_at i (Ok x) e = ap (W.show i) (m.answers.done x) ∙ shown_at i x e (m.answers.given x)
 
@@ -309,7 +310,7 @@ module _ {F : Form} {f : Implementation F} (m : Meets F f) (W : Wrapper F) where
         others = λ i. others_at i (W.read i) refl;
       };
       answers = record {
-        given = λ i. given_at i (W.read i);
+        given = λ i. inner_given m (W.show i) (W.read i);
         by_rules = λ i. by_rules_at i (W.read i);
         done = λ i. done_at i (W.read i) refl;
       };
@@ -317,11 +318,11 @@ module _ {F : Form} {f : Implementation F} (m : Meets F f) (W : Wrapper F) where
 
 -- ---- a call around a call, with tests before it that the rules give in facts
 
--- the table says row by row what the rules say, and ends at what the inner call is given
+-- the table says row by row what the rules say, and ends at the input x of the inner call
 infixr 3 ◌before◌
-pub data Leads (F : Form) {O : Type 0} (show : F.Outcome → O) : Tests F.Input → Rules O → Type 1 where
-  ◌before◌ : {x : Refusal} {b : Bool} {P : Type 0} {t : Tests F.Input} {r : Rules O} → WhereFalse P b → Leads F show t r → Leads F show (x if b else t) (x unless P then r)
-  inner : {x : F.Input} → Leads F show (otherwise x) (map_rules show (F.rules x))
+pub data Leads (F : Form) {O : Type 0} (x : F.Input) (show : F.Outcome → O) : Tests F.Input → Rules O → Type 1 where
+  ◌before◌ : {n : Refusal} {b : Bool} {P : Type 0} {t : Tests F.Input} {r : Rules O} → WhereFalse P b → Leads F x show t r → Leads F x show (n if b else t) (n unless P then r)
+  inner : Leads F x show (otherwise x) (map_rules show (F.rules x))
 
 -- an outcome of rules with something made of each is made of an outcome of the rules
 pub unmapped : {A B : Type 0} (h : A → B) (r : Rules A) (o : B) → Passes (map_rules h r) o → (a : A) × Passes r a × (h a ≡ o)
@@ -331,12 +332,40 @@ unmapped h (x provided P else rest) o (inr (no-kiss, q)) = let (a, y, e) = unmap
 unmapped h (does a) o e = (a, refl, e)
 unmapped h (refuses n) o p = absurd p
 
-module _ (F : Form) (W : Wrapper F) where
-  -- so the rules give what the inner call's rules give, and before them the numbers of the table
-  pub led : (i : W.Input) {t : Tests F.Input} {r : Rules W.Outcome} → Leads F (W.show i) t r → (g : Given W.Outcome) → Gives (rules_of F W i (tests.given t)) g → Gives r g
-  led i (◌before◌ {b = true} p rest) g e = inl (p.to, e)
-  led i (◌before◌ {b = false} p rest) g e = inr (p.from tt, led i rest g e)
-  led i inner g e = e
+-- so the rules give what the table gives, with something made of what the inner call's rules give
+module _ {F : Form} {f : Implementation F} (m : Meets F f) {O : Type 0} (show : F.Outcome → O) where
+  led : {x : F.Input} {t : Tests F.Input} {r : Rules O} → Leads F x show t r → Gives r (inner_given m show (tests.given t))
+  led (◌before◌ {b = true} p rest) = inl (p.to, refl)
+  led (◌before◌ {b = false} p rest) = inr (p.from tt, led rest)
+  led {x} inner = mapped show (F.rules x) (m.answers.given x) (m.answers.by_rules x)
+
+led_each : {F : Form} {O : Type 0} {x : F.Input} {show : F.Outcome → O} {t : Tests F.Input} {r : Rules O} (Q : O → Type 0) → Leads F x show t r → Each (λ o. Q (show o)) (F.rules x) → Each Q r
+led_each Q (p before rest) a = led_each Q rest a
+led_each {F} {x = x} {show = show} Q inner a = map_each show Q (F.rules x) a
+
+-- what a call of the form G does that refuses by a table, or else shows what the inner call does
+abbrev pub around : (F G : Form) → Implementation F → (G.Input → F.Outcome → G.Outcome) → G.Input → Result F.Input Refusal → G.Outcome
+around F G f show i (Err r) = G.refusing i (number r)
+around F G f show i (Ok x) = show i (f x)
+
+-- it meets its form if it shows an inner refusal as a refusal by the same number, and no other outcome as one
+pub around_meets : {F G : Form} {f : Implementation F} {g : Implementation G} {table : G.Input → Tests F.Input} → Meets F f → (at : G.Input → F.Input) (show : G.Input → F.Outcome → G.Outcome)
+    → ((i : G.Input) → Leads F (at i) (show i) (table i) (G.rules i)) → ((i : G.Input) → g i ≡ around F G f show i (tests.given (table i)))
+    → ((i : G.Input) (n : ℕ) → show i (F.refusing (at i) n) ≡ G.refusing i n) → ((i : G.Input) (n : ℕ) → T (listed n) → ShownAs n (G.shown (G.refusing i n)))
+    → ((i : G.Input) → Each (λ o. Accepted G (show i o)) (F.rules (at i))) → Meets G g
+around_meets {F} {G} {f} {table = table} m at show leads is refusing refusals others = record {
+  proper = record { refusals = refusals; others = λ i. led_each (Accepted G) (leads i) (others i) };
+  answers = record { given = λ i. inner_given m (show i) (tests.given (table i)); by_rules = λ i. led m (show i) (leads i); done = λ i. is i ∙ done i (leads i) };
+}
+  where
+    shown_so : (i : G.Input) (g : Given F.Outcome) → show i (outcome F (at i) g) ≡ outcome G i (map_given (show i) g)
+    shown_so i (refused n) = refusing i n
+    shown_so i (answered o) = refl
+
+    done : (i : G.Input) {t : Tests F.Input} {r : Rules G.Outcome} → Leads F (at i) (show i) t r → around F G f show i (tests.given t) ≡ outcome G i (inner_given m (show i) (tests.given t))
+    done i (◌before◌ {b = true} p rest) = refl
+    done i (◌before◌ {b = false} p rest) = done i rest
+    done i inner = ap (show i) (m.answers.done (at i)) ∙ shown_so i (m.answers.given (at i))
 
 -- ---- what does the same meets the same
 
