@@ -1,6 +1,6 @@
 -- A call for an association meets its form.
 use Rattle.reply_checks.specs.declared.ArrivalAnswer.{ArrivalAnswer}
-use Rattle.ordered_tests.specs.Tests.{given}
+use Rattle.ordered_tests.specs.Tests.{given, Tests, otherwise}
 use Prim.Native.Nat.{ℕ}
 use mathlib.Core.Path.{◌≡◌, refl, ap, ◌∙◌}
 use mathlib.Core.Bool.{Bool, true, false}
@@ -9,7 +9,6 @@ use lib.ListN.{length, set}
 use lib.Seq.{set-get_or}
 use Rattle.std.specs.Prelude.{Result, Ok, Err}
 use Rattle.refusals.specs.declared.Refusal.{Refusal}
-use Rattle.ordered_tests.specs.Tests.{Tests, otherwise}
 use Rattle.ordered_tests.specs.Tests as tests
 use Rattle.client.specs.declared.Client.{Client}
 use Rattle.client.specs.Record.{fresh}
@@ -23,9 +22,9 @@ use Rattle.demands.specs.Client as clients
 use Rattle.demands.specs.Client.{call_rules, client}
 use Rattle.demands.specs.Associations.{ListCall, ask, arrival, give_up, ListInput, ListOutcome, InList, AllLegal, use_after, at_record, placed, associations, ours}
 use Rattle.ordered_tests.proofs.Reflection.{WhereFalse, negated, both, is_false, is_below, within}
-use Rattle.demands.proofs.Form.{Meets, Each, Accepted, by, acceptance_shown, kiss_shown, Leads, ◌before◌, inner, around, around_meets}
+use Rattle.demands.proofs.Form.{Meets, Accepted, by, acceptance_shown, kiss_shown, Leads, ◌before◌, inner, around, around_meets}
 use Rattle.demands.proofs.Legal.{legal}
-use Rattle.demands.proofs.Client.{client_meets}
+use Rattle.demands.proofs.Client.{client_meets, each_told}
 
 -- ---- the two tests
 
@@ -99,10 +98,6 @@ module _ (i : ListInput) where
       let f = (is_false (any_illegal i.list)).from ((all_legal i.list).to legal) in
       is_ours ∙ rw (e, f) refl
 
-shows_accepted : (i : ListInput) (c : Client) (x : calls.Call) → Each (λ o. Accepted associations (placed i o)) (call_rules c x)
-shows_accepted i c (calls.ask x) = acceptance_shown
-shows_accepted i c (calls.arrival x) = (kiss_shown, acceptance_shown)
-shows_accepted i c (calls.give_up x) = acceptance_shown
-
 pub associations_meets : Meets associations ours
-associations_meets = around_meets client_meets at_record placed leads is_ours refused_so (λ i n l. by 8 n) (λ i. shows_accepted i (at_record i).0 (at_record i).1)
+associations_meets = around_meets client_meets at_record placed leads is_ours refused_so (λ i n l. by 8 n)
+    (λ i. each_told (λ o. Accepted associations (placed i o)) (λ next octets. acceptance_shown) (λ code row next octets. kiss_shown) (λ offset half delay next octets. acceptance_shown) (at_record i).0 (at_record i).1)

@@ -1,6 +1,5 @@
 -- A broadcast packet has no originate timestamp that a waiting client's request could have.
-use Rattle.refusals.specs.Given.{refused}
-use Rattle.refusals.specs.Given.{answered}
+use Rattle.refusals.specs.Given.{refused, answered}
 use Prim.Native.Nat.{◌≤◌, ◌^◌, ◌<◌}
 use mathlib.Core.Path.{◌≡◌, refl, sym, ap, subst, ◌∙◌}
 use mathlib.Core.Logic.{◌≢◌, inl, inr}
@@ -9,7 +8,6 @@ use mathlib.Core.List.{◌++◌}
 use native.Mathlib.Omega.{arith}
 use lib.ListN.{length, take, drop}
 use Rattle.refusals.specs.Numbers.{number}
-use Rattle.refusals.specs.declared.Refusal.TheVariants.{NotWaiting, OriginateMismatch}
 use Rattle.refusals.specs.declared.Refusal.TheVariants.{NotWaiting, OriginateMismatch}
 use Rattle.timestamp.specs.declared.Timestamp.{Timestamp}
 use Rattle.packet.specs.Packet.{fields_of, octets_of}

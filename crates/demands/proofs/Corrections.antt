@@ -7,7 +7,6 @@ use native.Mathlib.Omega.{arith}
 use lib.IntN.{ℤ, nat_abs, ◌+ℤ◌}
 use Rattle.refusals.specs.Numbers.{number}
 use Rattle.refusals.specs.declared.Refusal.TheVariants.{DebtTooLarge, EntryTooLarge}
-use Rattle.refusals.specs.declared.Refusal.TheVariants.{EntryTooLarge, DebtTooLarge}
 use Rattle.offset.proofs.Halving.{halving}
 use Rattle.client.specs.declared.Client.{Client}
 use Rattle.client.specs.Calls as calls

@@ -1,5 +1,5 @@
 -- The calls for C meet their forms: fresh by its test, the others around the client's and the server's.
-use Rattle.ordered_tests.specs.Tests.{given}
+use Rattle.ordered_tests.specs.Tests.{given, Tests, otherwise, answer_of, kept_of}
 use Prim.Native.Nat.{ℕ}
 use mathlib.Core.Path.{◌≡◌, refl, ap, subst, ◌∙◌}
 use mathlib.Core.Logic.{◌≢◌}
@@ -11,20 +11,15 @@ use lib.Dec.{T, eqb}
 use lib.ListN.{length, get_or, replicate}
 use Rattle.refusals.specs.declared.Refusal.{Refusal}
 use Rattle.refusals.specs.declared.Refusal.TheVariants.{ImageNotLegal}
-use Rattle.refusals.specs.Numbers.{listed}
+use Rattle.refusals.specs.Numbers.{listed, number}
 use Rattle.std.specs.Prelude.{Result, Ok, Err}
-use Rattle.refusals.specs.declared.Refusal.{Refusal}
-use Rattle.refusals.specs.declared.Refusal.TheVariants.{ImageNotLegal}
-use Rattle.refusals.specs.Numbers.{number}
-use Rattle.ordered_tests.specs.Tests.{Tests, otherwise, answer_of, kept_of}
 use Rattle.ordered_tests.specs.Tests as tests
 use Rattle.client.specs.declared.Client.{Client}
 use Rattle.client.specs.Calls as calls
 use Rattle.firmware_layouts.specs.Image.{is_image, record_in}
 use Rattle.firmware_layouts.specs.Answer.{answer_in}
 use Rattle.firmware_layouts.proofs.Laws as layouts
-use Rattle.refusals.specs.Given.{numbered, given_number}
-use Rattle.refusals.specs.Given.{result_number}
+use Rattle.refusals.specs.Given.{numbered, given_number, result_number}
 use Rattle.firmware.specs.Numbers.{number_of}
 use Rattle.firmware.specs.Client as firmware
 use Rattle.firmware.specs.Client.{LentCall, ask, arrival, give_up}
@@ -39,7 +34,7 @@ use Rattle.ordered_tests.proofs.Reflection.{WhereTrue, negated, conjoined, is_tr
 use Rattle.demands.proofs.Facts.{some}
 use Rattle.demands.proofs.Form.{Meets, Each, Accepted, ShownAs, ◌and◌, end, by, acceptance_shown, kiss_shown, table_meets, wrapped_meets, Leads, ◌before◌, inner, around, around_meets, same_program}
 use Rattle.demands.proofs.Legal.{legal_tested}
-use Rattle.demands.proofs.Client.{client_meets}
+use Rattle.demands.proofs.Client.{client_meets, each_told}
 use Rattle.demands.proofs.Reply.{reply_meets}
 
 not_0 : (n : ℕ) → T (listed n) → eqb n 0 ≡ false
@@ -136,9 +131,7 @@ each_of f (does o) e = f o e
 each_of f (refuses n) e = e
 
 returns_0 : (c : Client) (x : calls.Call) → Each (λ o. number_of o.result ≡ 0) (call_rules c x)
-returns_0 c (calls.ask x) = refl
-returns_0 c (calls.arrival x) = (refl, refl)
-returns_0 c (calls.give_up x) = refl
+returns_0 = each_told (λ o. number_of o.result ≡ 0) (λ next octets. refl) (λ code row next octets. refl) (λ offset half delay next octets. refl)
 
 module _ (i : ImageCall) where
   -- so an outcome of the client that is no refusal is shown as none

@@ -10,7 +10,6 @@ use lib.ListN.{length}
 use mir.Facts.{eqb_no}
 use Rattle.refusals.specs.Numbers.{number}
 use Rattle.refusals.specs.declared.Refusal.TheVariants.{ImageNotLegal}
-use Rattle.refusals.specs.declared.Refusal.TheVariants.{ImageNotLegal}
 use Rattle.firmware_layouts.specs.Image.{record_in, image_of}
 use Rattle.firmware.specs.Client as firmware
 use Rattle.demands.specs.Behaviour.{client, reply, fresh_for_c, client_for_c, reply_for_c, form, ours}

@@ -10,7 +10,6 @@ use lib.Dec.{eqb}
 use lib.ListN.{get_or, take}
 use Rattle.refusals.specs.Numbers.{number}
 use Rattle.refusals.specs.declared.Refusal.TheVariants.{ImageNotLegal}
-use Rattle.refusals.specs.declared.Refusal.TheVariants.{ImageNotLegal}
 use Rattle.arithmetic.proofs.Modulo.{modulo_below}
 use Rattle.token.specs.Token as tokens
 use Rattle.client.specs.declared.Client.{Client}

@@ -1,6 +1,6 @@
 -- Laws of the form: rules give one thing, so that demand 2 leaves one program for a call; a call that goes by a table of tests which says what its rules
 -- say meets both demands; and so does a call around one that meets them.
-use Rattle.ordered_tests.specs.Tests.{given}
+use Rattle.ordered_tests.specs.Tests.{given, Tests, ◌if◌else◌, ◌when◌else◌, otherwise, kept_of}
 use Prim.Native.Nat.{ℕ}
 use mathlib.Core.Path.{◌≡◌, refl, sym, ap, subst, ◌∙◌}
 use mathlib.Core.Logic.{◌≢◌, ◌⊎◌, inl, inr}
@@ -16,7 +16,6 @@ use Rattle.refusals.specs.declared.Refusal.{Refusal}
 use Rattle.refusals.specs.Numbers.{number, listed}
 use Rattle.refusals.specs.Given.{Given, refused, answered, numbered}
 use Rattle.refusals.proofs.Laws.{each_listed}
-use Rattle.ordered_tests.specs.Tests.{Tests, ◌if◌else◌, ◌when◌else◌, otherwise, kept_of}
 use Rattle.ordered_tests.specs.Tests as tests
 use Rattle.demands.specs.Common.{Written}
 use Rattle.demands.specs.Form.{refusal, acceptance, kiss, Shown, refused_by, Rules, ◌unless◌then◌, ◌provided◌else◌, does, refuses, Gives, Form, Implementation, outcome, Refuses, Answers}
@@ -206,12 +205,8 @@ abbrev map_given : {A O : Type 0} → (A → O) → Given A → Given O
 map_given say (refused n) = refused n
 map_given say (answered a) = answered (say a)
 
-abbrev given_by : {A O : Type 0} → (A → O) → Result A Refusal → Given O
-given_by say (Err r) = refused (number r)
-given_by say (Ok a) = answered (say a)
-
 -- so the rules give what the table gives
-reflected : {A O : Type 0} {say : A → O} {t : Tests A} {r : Rules O} → Reflects say t r → Gives r (given_by say (tests.given t))
+reflected : {A O : Type 0} {say : A → O} {t : Tests A} {r : Rules O} → Reflects say t r → Gives r (map_given say (numbered (tests.given t)))
 reflected (◌and◌ {b = true} p rest) = inl (p.to, refl)
 reflected (◌and◌ {b = false} p rest) = inr (p.from tt, reflected rest)
 reflected (◌or_else◌and◌ {b = true} p e rest) = inl (p.from tt, ap answered e)
@@ -226,13 +221,13 @@ module _ {F : Form} {f : Implementation F} {A : F.Input → Type 0} (table : (i 
   table_meets refusals others is refusing reflects = record {
     proper = record { refusals = refusals; others = others };
     answers = record {
-      given = λ i. given_by (λ a. make i (Ok a)) (tests.given (table i));
+      given = λ i. map_given (λ a. make i (Ok a)) (numbered (tests.given (table i)));
       by_rules = λ i. reflected (reflects i);
       done = λ i. is i ∙ made i (tests.given (table i));
     };
   }
     where
-      made : (i : F.Input) (g : Result (A i) Refusal) → make i g ≡ outcome F i (given_by (λ a. make i (Ok a)) g)
+      made : (i : F.Input) (g : Result (A i) Refusal) → make i g ≡ outcome F i (map_given (λ a. make i (Ok a)) (numbered g))
       made i (Err r) = refusing i r
       made i (Ok a) = refl
 

@@ -1,5 +1,5 @@
 -- A line of a replay meets its form.
-use Rattle.std.specs.Prelude.{Option, Some, None}
+use Rattle.std.specs.Prelude.{Option, Some, None, Result, Ok, Err}
 use Prim.Native.Nat.{ℕ}
 use mathlib.Core.Path.{◌≡◌, refl, sym, ap, subst, ◌∙◌}
 use mathlib.Core.Logic.{◌≢◌, ◌↔◌}
@@ -11,11 +11,7 @@ use lib.Dec.{T, eqb}
 use mir.Facts.{eqb_no}
 use Rattle.refusals.specs.declared.Refusal.{Refusal}
 use Rattle.refusals.specs.declared.Refusal.TheVariants.{LineMalformed}
-use Rattle.refusals.specs.Numbers.{listed}
-use Rattle.std.specs.Prelude.{Result, Ok, Err}
-use Rattle.refusals.specs.declared.Refusal.{Refusal}
-use Rattle.refusals.specs.declared.Refusal.TheVariants.{LineMalformed}
-use Rattle.refusals.specs.Numbers.{number}
+use Rattle.refusals.specs.Numbers.{listed, number}
 use Rattle.client.specs.declared.Client.{Client}
 use Rattle.client.specs.Calls as calls
 use Rattle.client.specs.Calls.{Call, ask, arrival, give_up}
@@ -28,7 +24,7 @@ use Rattle.demands.specs.Client.{call_rules, client}
 use Rattle.demands.specs.Line.{carried, carrying, shown, line, ours}
 use Rattle.ordered_tests.proofs.Reflection.{contradiction}
 use Rattle.demands.proofs.Form.{Meets, Each, Accepted, ShownAs, each_number, number_in, outcome_in, either, acceptance_shown, kiss_shown, wrapped_meets, same_program}
-use Rattle.demands.proofs.Client.{client_meets}
+use Rattle.demands.proofs.Client.{client_meets, each_told}
 
 -- a line is read with its own client
 own : (c d : Client) (x : Option Call) (y : Call) → carried c x ≡ Ok (d, y) → d ≡ c
@@ -51,9 +47,7 @@ number_shown n l =
     unlisted m u false e = e
 
 shows_accepted : (c : Client) (l : List ℕ) (x : Call) → Each (λ o. Accepted line (carrying.show (c, l) o)) (call_rules c x)
-shows_accepted c l (ask x) = acceptance_shown
-shows_accepted c l (arrival x) = (kiss_shown, acceptance_shown)
-shows_accepted c l (give_up x) = acceptance_shown
+shows_accepted c l = each_told (λ o. Accepted line (carrying.show (c, l) o)) (λ next octets. acceptance_shown) (λ code row next octets. kiss_shown) (λ offset half delay next octets. acceptance_shown) c
 
 is_ours : (c : Client) (l : List ℕ) (x : Option Call) → frames.reply_to calls.step c x ≡ over client carrying clients.ours (c, l) (carried c x)
 is_ours c l (Some x) = refl

@@ -25,11 +25,10 @@ use Rattle.demands.specs.Broadcast.{Broadcast, broadcast_fields}
 use Rattle.demands.specs.Behaviour.{broadcast_arrival, ours}
 use Rattle.clocks.specs.Exchange.{longest_trip, reading}
 use Rattle.demands.specs.OneWay.{broadcast_clocks_apart, OneWay, T3, T4, true_difference, travelled, Orderly, Run, the_write, the_arrival, Premises, Conclusions, BroadcastDifference, across, slowest, fastest, run_of, OneWayWitnesses}
-use Rattle.demands.proofs.Facts.{of_48}
+use Rattle.demands.proofs.Facts.{of_48, available}
 use Rattle.demands.proofs.Form.{done_so}
 use Rattle.demands.proofs.Broadcast.{broadcast_meets, broadcast_arrival_meets}
 use Rattle.demands.proofs.Served.{typed, front, packet_fields_lem}
-use Rattle.demands.proofs.Facts.{available}
 use Rattle.clocks.proofs.WorkedExchanges.{all, each}
 
 reading_below : (constant t : ℤ) → (reading constant t).0 < 2 ^ 64

@@ -1,6 +1,5 @@
 -- An ask, our server's reply to the 48 octets that it wrote, and what the record that waits for it finds in that reply.
-use Rattle.refusals.specs.Given.{Given}
-use Rattle.refusals.specs.Given.{answered}
+use Rattle.refusals.specs.Given.{Given, answered}
 use Rattle.ordered_tests.specs.Tests.{given}
 use mathlib.Core.Path.{◌≡◌, refl, sym, ap, subst, ◌∙◌}
 use mathlib.Core.Logic.{◌≢◌, inr}

@@ -11,7 +11,6 @@ use lib.Signed.{◌≤ℤ◌}
 use Rattle.refusals.specs.Numbers.{number}
 use Rattle.refusals.specs.declared.Refusal.TheVariants.{DelayNegative}
 use Rattle.arithmetic.proofs.Integers.{up, dn, integers}
-use Rattle.refusals.specs.declared.Refusal.TheVariants.{DelayNegative}
 use Rattle.timestamp.specs.Timestamp.{◌since◌}
 use Rattle.offset.proofs.Halving.{halving}
 use Rattle.clocks.specs.Exchange.{Exchange}
