@@ -3,7 +3,7 @@ use Rattle.refusals.specs.Given.{refused, answered}
 use Prim.Native.Nat.{◌≤◌, ◌^◌, ◌<◌}
 use mathlib.Core.Path.{◌≡◌, refl, sym, ap, subst, ◌∙◌}
 use mathlib.Core.Logic.{◌≢◌, inl, inr}
-use mathlib.Core.Bool.{Bool, true, false, cond}
+use mathlib.Core.Bool.{Bool}
 use mathlib.Core.List.{◌++◌}
 use native.Mathlib.Omega.{arith}
 use lib.ListN.{length, take, drop}
@@ -12,7 +12,7 @@ use Rattle.refusals.specs.declared.Refusal.TheVariants.{NotWaiting, OriginateMis
 use Rattle.timestamp.specs.declared.Timestamp.{Timestamp}
 use Rattle.packet.specs.Packet.{fields_of, octets_of}
 use Rattle.packet.proofs.Packet.{length_octets_of}
-use Rattle.server_packet.specs.Packet.{synchronised_fields, unsynchronised_fields, packet_fields}
+use Rattle.server_packet.specs.Packet.{unsynchronised_fields}
 use Rattle.broadcast.specs.Broadcast.{broadcast_message}
 use Rattle.token.specs.Token.{token}
 use Rattle.client.specs.declared.Client.{Client}
@@ -28,7 +28,7 @@ use Rattle.demands.proofs.Facts.{of_48}
 use Rattle.demands.proofs.Form.{facts, done_so, does_it, acceptance_shown}
 use Rattle.demands.proofs.Client.{client_meets}
 use Rattle.demands.proofs.Broadcast.{broadcast_meets}
-use Rattle.demands.proofs.Served.{typed, front, packet_fields_lem}
+use Rattle.demands.proofs.Served.{typed, front, packet_either, packet_fields_lem}
 
 module _ (x : Broadcast) (w : (ours.does broadcast x).answer ≡ answered tt) where
   not_refused : (writing.shown (ours.does broadcast x).answer).kind ≢ refusal
@@ -47,36 +47,24 @@ module _ (x : Broadcast) (w : (ours.does broadcast x).answer ≡ answered tt) wh
 
   -- synchronised or not, it is read as its fields, but for an identifier and a reference timestamp that are no values of their types
   pub fields_are : x.t3.0 < 2 ^ 64 → fields_of (octets_of (broadcast_fields x)) ≡ typed (broadcast_fields x)
-  unfolding packet_fields
-  fields_are t = go x.settings.synchronised
-    where
-      go : (b : Bool)
-          → fields_of (octets_of (cond b (synchronised_fields x.settings (broadcast_message x.version x.poll x.t3)) (unsynchronised_fields x.settings (broadcast_message x.version x.poll x.t3))))
-          ≡ typed (cond b (synchronised_fields x.settings (broadcast_message x.version x.poll x.t3)) (unsynchronised_fields x.settings (broadcast_message x.version x.poll x.t3)))
-      go true =
-          let (version, set, poll) = limits in
-          packet_fields_lem x.settings set (broadcast_message x.version x.poll x.t3) x.settings.leap 1 x.settings.identifier x.settings.reference not_available x.t3
-          (omega arith) (omega arith) (omega arith) (omega arith) (let l = set.leap in omega arith) (omega arith) (omega arith) t
-      go false =
-          let (version, set, poll) = limits in
-          packet_fields_lem x.settings set (broadcast_message x.version x.poll x.t3) 3 0
-          (unsynchronised_fields x.settings (broadcast_message x.version x.poll x.t3)).identifier not_available not_available not_available
-          (omega arith) (omega arith) (omega arith) (omega arith) (omega arith) (omega arith) (omega arith) (omega arith)
+  fields_are t =
+      let (version, set, poll) = limits in
+      let m = broadcast_message x.version x.poll x.t3 in
+      packet_either x.settings m (λ f. fields_of (octets_of f) ≡ typed f)
+      (packet_fields_lem x.settings set m x.settings.leap 1 x.settings.identifier x.settings.reference not_available x.t3
+      (omega arith) (omega arith) (omega arith) (omega arith) (let l = set.leap in omega arith) (omega arith) (omega arith) t)
+      (packet_fields_lem x.settings set m 3 0 (unsynchronised_fields x.settings m).identifier not_available not_available not_available
+      (omega arith) (omega arith) (omega arith) (omega arith) (omega arith) (omega arith) (omega arith) (omega arith))
 
 module _ (c : Client) (x : Broadcast) (t4 : Timestamp) (alternate : Bool) (l : Legal c) (t : x.t3.0 < 2 ^ 64) (w : (ours.does broadcast x).answer ≡ answered tt) where
   is_packet : IsPacket (take 48 (ours.does broadcast x).octets)
   is_packet = of_48 (take 48 (ours.does broadcast x).octets) (ap length (packet_is x w) ∙ length_octets_of (broadcast_fields x))
 
   originate : (fields_of (take 48 (ours.does broadcast x).octets)).originate ≡ not_available
-  unfolding packet_fields
-  originate = ap (λ p. (fields_of p).originate) (packet_is x w) ∙ ap (λ f. f.originate) (fields_are x w t) ∙ originate_zero
-    where
-      originate_zero : (broadcast_fields x).originate ≡ not_available
-      originate_zero = go x.settings.synchronised
-        where
-          go : (b : Bool) → (cond b (synchronised_fields x.settings (broadcast_message x.version x.poll x.t3)) (unsynchronised_fields x.settings (broadcast_message x.version x.poll x.t3))).originate ≡ not_available
-          go true = refl
-          go false = refl
+  originate =
+      ap (λ p. (fields_of p).originate) (packet_is x w)
+      ∙ ap (λ f. f.originate) (fields_are x w t)
+      ∙ packet_either x.settings (broadcast_message x.version x.poll x.t3) (λ f. f.originate ≡ not_available) refl refl
 
   refuses : RefusesBroadcast c x t4 alternate
   refuses = record {

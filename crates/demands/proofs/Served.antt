@@ -3,7 +3,7 @@ use Rattle.refusals.specs.Given.{Given, answered}
 use Rattle.ordered_tests.specs.Tests.{given}
 use mathlib.Core.Path.{◌≡◌, refl, sym, ap, subst, ◌∙◌}
 use mathlib.Core.Logic.{◌≢◌, inr}
-use mathlib.Core.Bool.{Bool, true}
+use mathlib.Core.Bool.{Bool, true, false, cond}
 use mathlib.Core.List.{List, ◌++◌}
 use Prim.Native.Nat.{ℕ, ◌%◌, ◌^◌, ◌≤◌, ◌<◌}
 use native.Mathlib.Nat.{mod-eq_of_lt}
@@ -30,6 +30,7 @@ use Rattle.client.specs.Ask.{waiting_for}
 use Rattle.request.proofs.Request.{request_octets}
 use Rattle.server_packet.specs.declared.Settings.{Settings}
 use Rattle.server_packet.specs.declared.Message.{Message}
+use Rattle.server_packet.specs.Packet.{synchronised_fields, unsynchronised_fields, packet_fields}
 use Rattle.server.specs.Server.{reply_message, reply_fields}
 use Rattle.client.specs.Calls as calls
 use Rattle.client.specs.Calls.{ask, Outcome}
@@ -74,27 +75,9 @@ front f rest =
     let l = length_octets_of f in
     take-append-le 48 (octets_of f) rest (omega arith) ∙ take_all 48 (octets_of f) (omega arith)
 
--- fields with another identifier and reference timestamp
-abbrev pub identified : Fields → ℕ → Timestamp → Fields
-identified f identifier reference = record {
-  leap = f.leap;
-  version = f.version;
-  mode = f.mode;
-  stratum = f.stratum;
-  poll = f.poll;
-  precision = f.precision;
-  root_delay = f.root_delay;
-  root_dispersion = f.root_dispersion;
-  identifier = identifier;
-  reference = reference;
-  originate = f.originate;
-  receive = f.receive;
-  transmit = f.transmit;
-}
-
 -- an identifier and a reference timestamp that are values of their types have the octets of any others
 abbrev pub typed : Fields → Fields
-typed f = identified f (f.identifier % 256 ^ 4) (timestamp (f.reference.0 % 256 ^ 8))
+typed f = record f { identifier = f.identifier % 256 ^ 4; reference = timestamp (f.reference.0 % 256 ^ 8) }
 
 typed_octets : (f : Fields) → octets_of (typed f) ≡ octets_of f
 unfolding octets_of
@@ -105,25 +88,27 @@ pub typed_is : (f : Fields) → f.identifier < 2 ^ 32 → f.reference.0 < 2 ^ 64
 typed_is f id rf =
     let e : f.identifier % 256 ^ 4 ≡ f.identifier = mod-eq_of_lt (omega arith) in
     let r : f.reference.0 % 256 ^ 8 ≡ f.reference.0 = mod-eq_of_lt (omega arith) in
-    λ i. identified f (e i) (timestamp (r i))
+    λ i. record f { identifier = e i; reference = timestamp (r i) }
 
 -- the fields of a packet, of which those that depend on whether the server is synchronised are given
 abbrev packet_with : Settings → Message → (leap stratum identifier : ℕ) → (reference receive transmit : Timestamp) → Fields
-packet_with s m leap stratum identifier reference receive transmit = record {
+packet_with s m leap stratum identifier reference receive transmit = record (synchronised_fields s m) {
   leap = leap;
-  version = m.version;
-  mode = m.mode;
   stratum = stratum;
-  poll = m.poll;
-  precision = s.precision;
-  root_delay = pos 0;
-  root_dispersion = 0;
   identifier = identifier;
   reference = reference;
-  originate = m.originate;
   receive = receive;
   transmit = transmit;
 }
+
+-- the fields of a packet of the server are those of a synchronised server or those of one that is not
+pub packet_either : (s : Settings) (m : Message) (Q : Fields → Type 0) → Q (synchronised_fields s m) → Q (unsynchronised_fields s m) → Q (packet_fields s m)
+unfolding packet_fields
+packet_either s m Q synchronised unsynchronised = go s.synchronised
+  where
+    go : (b : Bool) → Q (cond b (synchronised_fields s m) (unsynchronised_fields s m))
+    go true = synchronised
+    go false = unsynchronised
 
 -- a packet of the server is read back as its fields
 pub packet_fields_lem : (s : Settings) → LegallySet s → (m : Message) (leap stratum identifier : ℕ) (reference receive transmit : Timestamp)
