@@ -52,6 +52,7 @@ leads : (i : ListInput) → Leads client (at_record i) (placed i) (table i) (ass
 leads i = in_list i.list i.at i.in_use before all_legal i.list before inner
 
 module _ (i : ListInput) where
+  -- an inner refusal is a refusal by the same number
   refused_so : (n : ℕ) → placed i (client.refusing (at_record i) n) ≡ associations.refusing i n
   refused_so n = same i.call refl
     where

@@ -46,6 +46,6 @@ room capacity size n =
 
 pub add_meets : Meets add adding.ours
 unfolding add_tests
-add_meets = written_meets (λ x. x.buffer) (λ x. with_field x.buffer x.size x.field_type x.body) (λ x. add_tests x.buffer x.size (length x.body)) (λ old. by 1) (λ x. acceptance_shown) (λ x. refl) (λ x.
-    let p = take x.size x.buffer in
-    at_least (length x.buffer) x.size and packet p and only_fields (drop 48 p) and room (length x.buffer) x.size (length x.body) and end refl)
+add_meets = written_meets (λ x. x.buffer) (λ x. with_field x.buffer x.size x.field_type x.body)
+    (λ x. add_tests x.buffer x.size (length x.body)) (λ old. by 1) (λ x. acceptance_shown) (λ x. refl)
+    (λ x. let p = take x.size x.buffer in at_least (length x.buffer) x.size and packet p and only_fields (drop 48 p) and room (length x.buffer) x.size (length x.body) and end refl)

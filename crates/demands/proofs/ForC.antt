@@ -145,7 +145,8 @@ module _ (i : ImageCall) where
   refusal_shown n l = rw (not_0 n l) (by (length (firmware.lent_answer i.call)) n)
 
 pub client_for_c_meets : Meets client_for_c ours_client
-client_for_c_meets = around_meets client_meets at_record lent_after leads is_ours (λ i. refused_in i (record_in i.image)) refusal_shown (λ i. shows_accepted i (at_record i).0 (at_record i).1)
+client_for_c_meets = around_meets client_meets at_record lent_after leads is_ours (λ i. refused_in i (record_in i.image)) refusal_shown
+    (λ i. shows_accepted i (at_record i).0 (at_record i).1)
 
 -- ---- the server
 
