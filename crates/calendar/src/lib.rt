@@ -106,7 +106,8 @@ fn seconds_to(d: Date) -> u64
     requires day { 0 < d.day }
     ensures { result ≡ seconds_to d }
 {
-    let days = gregorian::days_to_month(u64::from(d.year), u64::from(d.month)) + (u64::from(d.day) - 1);
+    let days = gregorian::days_to_month(u64::from(d.year), u64::from(d.month))
+        + (u64::from(d.day) - 1);
     days * 86400 + (u64::from(d.hour) * 60 + u64::from(d.minute)) * 60 + u64::from(d.second)
 }
 

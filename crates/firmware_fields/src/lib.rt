@@ -63,6 +63,6 @@ pub fn pongulvesz_add_field(
     let Ok(field_type) = u16::try_from(field_type) else {
         return u32::from(Refusal::FieldTooLarge.number());
     };
-    let length = *size;
-    tell(extension_writer::add(buffer, length, field_type, body), size)
+    let answer = extension_writer::add(buffer, *size, field_type, body);
+    tell(answer, size)
 }

@@ -1,5 +1,5 @@
 -- The ledger for C (docs/C.md). The debt after a call is that of the record which the inner call hands back: after a refusal the same.
-use Rattle.std.specs.Prelude.{ℕ, min, ℤ, Result, Ok, Err}
+use Rattle.std.specs.Prelude.{ℕ, min, ℤ, Result}
 use Rattle.refusals.specs.declared.Refusal.{Refusal}
 use Rattle.refusals.specs.Given.{after}
 use Rattle.ledger.specs.declared.Called.{Called}

@@ -10,4 +10,3 @@ module _ {A : Type 0} where
   pub answered_ok : (o : Result A Refusal) {a : A} → numbered o ≡ answered a → o ≡ Ok a
   answered_ok (Ok b) e = cc
   answered_ok (Err r) e = cc
-
