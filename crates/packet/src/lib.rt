@@ -52,7 +52,7 @@ fn read_fields(p: &[u8; LENGTH]) -> Fields
     }
 }
 
-// Reads the first 48 octets, whatever stands behind them. The slice is cut to a known length, so no field needs a test.
+// Reads the first 48 octets, whatever stands behind them. The array has a known length, so no field needs a test.
 #[tactic(auto, using(crate::proofs::RoundTrips::fields_of_take))]
 pub fn read_header(packet: &[u8]) -> Result<Fields, Refusal>
     ensures { result ≡ header_answer packet.now }
@@ -73,7 +73,7 @@ pub fn read(packet: &[u8]) -> Result<Fields, Refusal>
     read_header(packet)
 }
 
-// Stores the octets of the four timestamps.
+// Stores the octets of the four timestamps, which are octets 16 to 47.
 fn put_timestamps(b: &mut [u8; LENGTH], fields: Fields)
     ensures { b.new ≡ sets b.old 16 (octets 8 fields.reference.0 ++ octets 8 fields.originate.0 ++ octets 8 fields.receive.0 ++ octets 8 fields.transmit.0) }
 {
@@ -105,7 +105,7 @@ fn first_word(octet: u8, fields: Fields) -> u32
     ])
 }
 
-// Stores octet 0 and those of the fields that follow it.
+// Stores octet 0 as it is given, and behind it octets 1 to 47 of the fields.
 fn put_fields(b: &mut [u8; LENGTH], octet: u8, fields: Fields)
     ensures { b.new ≡ octet ∷ drop 1 (octets_of fields) }
 {
