@@ -18,7 +18,7 @@ pub fn pongulvesz_fields(packet: &[u8], cursor: &mut usize) -> u32
     tell(extension::begin(packet).map(|first| first.at), cursor)
 }
 
-// `extension::next`. Refusals: 7.
+// `extension::next`. Refusals: 7. C lends five numbers, so each is stored here.
 pub fn pongulvesz_next_field(
     packet: &[u8],
     cursor: &mut usize,

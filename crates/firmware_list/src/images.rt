@@ -8,7 +8,7 @@ use firmware::client_calls::record_of;
 use firmware_layouts::{IMAGE, write_image};
 use refusals::Refusal;
 
-// Puts a record in the place of a number, and nothing past the eighth.
+// Puts a record at its number; past the eighth it puts nothing.
 #[tactic(auto, using(crate::proofs::Lists::past_eighth))]
 fn put(records: &mut [Client; 8], at: usize, client: Client)
     ensures { records.new ≡ set records.old at client }

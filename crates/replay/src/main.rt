@@ -62,8 +62,8 @@ fn read_some<R: Read, W: Write>(
     }
 }
 
-// A loop that may not end takes `Wait`, which no function here may; and nothing says that the input ends. So the loop counts its turns, to a number that no run uses up. An input that is
-// longer would count as one whose read failed.
+// A loop that may not end would need the bound `Wait`, which no function of this repository has, and nothing says that the input ends. So the loop counts its turns,
+// to a number that no run uses up. An input that is longer would count as one whose read failed.
 fn read_all<R: Read, W: Write>(
     replay: &mut Replay,
     block: &mut [u8; BLOCK],

@@ -56,7 +56,8 @@ fn reply_at(
 }
 
 // Replies to requests of 48 octets that stand one after another. `times` has the T2 and the T3 of each, `replies` gets a reply of 48 octets and `numbers` a
-// number for each, as `server::reply` gives them; the four stand apart, as C lends them. As many are answered as all four have room for; that count is returned, and everything past it stays.
+// number for each, as `server::reply` gives them; the four stand apart, as C lends them. As many are answered as all four have room for; that count is returned, and
+// everything past it stays.
 #[tactic(auto, using(crate::proofs::Block::no_reply, crate::proofs::Block::no_number, crate::proofs::Block::next_replies, crate::proofs::Block::next_numbers))]
 pub fn reply_block(
     settings: Settings,
