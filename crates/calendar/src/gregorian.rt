@@ -30,7 +30,7 @@ pub(crate) fn days_before_year(year: u64) -> u64
 }
 
 // The year of the day n after the start of the year 0. 1461 days are four years with a leap day, a little over four mean years,
-// so between these days the estimate is the year or the one before it. A search of the years takes more instructions, a turn a year.
+// so between these days the estimate is the year or the one before it. A search of the years would loop.
 pub(crate) fn year_on(n: u64) -> u64
     requires from { 146000 ≤ n }
     requires to { n < 768600 }
@@ -83,7 +83,7 @@ pub(crate) fn days_to_month(year: u64, month: u64) -> u64
 }
 
 // The month of the day k after the start of a year: 367/12 days a month, as if February had 30 days.
-// A search of the table takes more instructions, a turn a month.
+// A search of the table would loop.
 pub(crate) fn month_on(extra: u64, k: u64) -> u64
     requires extra { extra < 2 }
     requires k { k < 365 + extra }

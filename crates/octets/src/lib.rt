@@ -1,6 +1,5 @@
 // The order of a number's octets, in code: the library's conversions, under `big_endian` and `octets`, which contracts cite.
-// No trait over the widths: its impls would have these bodies, and for each type its number as a ghost member besides. No crate calls `be16`, `from_halves` and the
-// two `swap_octets`: their must-fail edits keep them.
+// No trait over the widths: its impls would have these bodies, and for each type its number as a ghost member besides.
 #![tactic(auto, unfolding(arithmetic::specs::Octets::octets))]
 
 ghost use Rattle.std.specs.Prelude.{◌≡◌, [], ◌∷◌, reverse, ◌+◌, ◌*◌, ◌^◌};

@@ -44,7 +44,6 @@ fn difference(x: Timestamp, y: Timestamp) -> Result<i64, Refusal>
 }
 
 // The clock offset, its half and the round-trip delay. P and Q are the first and the second difference of the rules.
-// The four timestamps come one by one, as C passes them.
 #[tactic(auto, unfolding(crate::specs::Offset::measured, crate::specs::Offset::offset_tests, crate::specs::Offset::halves))]
 pub fn measure(
     t1: Timestamp,
