@@ -44,6 +44,13 @@ record_in image = record {
 unfoldable pub has_legal_values : List ℕ → Bool
 has_legal_values image = leb (get_or image 0 0) 2 && leb (get_or image 2 0) 1 && leb (get_or image 3 0) 8 && eqb (read_at 4 image 4) 0
 
+-- it has 32 octets of such values
+unfoldable pub has_values : List ℕ → Bool
+has_values image = eqb (length image) 32 && has_legal_values image
+
+unfoldable pub values_read : List ℕ → Option Client
+values_read image = cond (has_values image) (Some (record_in image)) None
+
 -- it has 32 octets, and a legal record
 unfoldable pub is_image : List ℕ → Bool
 is_image image = eqb (length image) 32 && has_legal_values image && not (illegal (record_in image))

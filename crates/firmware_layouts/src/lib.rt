@@ -5,7 +5,7 @@ ghost use Rattle.std.specs.Prelude.{◌≡◌, [], ◌∷◌, ◌++◌, ◌≤�
 ghost use Rattle.std.proofs.lemmas.List.Edits.{sets};
 ghost use Rattle.arithmetic.specs.Octets.{octets};
 ghost use Rattle.client.specs.Calls.{said_arrival};
-ghost use Rattle.firmware_layouts.specs.Image.{phase_of, octet_of_phase, octet_of_flag, record_in, has_legal_values, image_read, image_of, with_image};
+ghost use Rattle.firmware_layouts.specs.Image.{phase_of, octet_of_phase, octet_of_flag, record_in, has_legal_values, values_read, image_read, image_of, with_image};
 ghost use Rattle.firmware_layouts.specs.Answer.{with_answer};
 
 use client::{Client, Phase};
@@ -62,16 +62,23 @@ fn record(image: &[u8]) -> Client
     }
 }
 
-// The record whose image this is, where there is a legal one.
-#[tactic(auto, unfolding(crate::specs::Image::image_read, crate::specs::Image::is_image, crate::specs::Image::has_legal_values))]
-pub fn read_image(image: &[u8]) -> Option<Client>
-    ensures { result ≡ image_read image.now }
+// The record that 32 octets of legal values stand for; whether it is legal is left to the caller.
+#[tactic(auto, unfolding(crate::specs::Image::values_read, crate::specs::Image::has_values, crate::specs::Image::has_legal_values))]
+pub fn record_of_values(image: &[u8]) -> Option<Client>
+    ensures { result ≡ values_read image.now }
 {
     if image.len() != IMAGE || !has_legal_values(image) {
         return None;
     }
-    let client = record(image);
-    (!client.illegal()).then_some(client)
+    Some(record(image))
+}
+
+// The record whose image this is, where there is a legal one.
+#[tactic(auto, unfolding(crate::specs::Image::image_read, crate::specs::Image::is_image, crate::specs::Image::values_read, crate::specs::Image::has_values))]
+pub fn read_image(image: &[u8]) -> Option<Client>
+    ensures { result ≡ image_read image.now }
+{
+    record_of_values(image).filter(|c| !c.illegal())
 }
 
 // ---- both, written
