@@ -8,11 +8,11 @@ use borrow.Author.Tests.{eq-eqb}
 use lib.ListN.{length, take, drop, length-append}
 use lib.Seq.{take_at, drop_at}
 use Rattle.client.specs.declared.Client.{Client}
-use Rattle.firmware_layouts.specs.Image.{image_of}
+use Rattle.firmware_layouts.specs.Image.{is_image, image_of}
 use Rattle.firmware_layouts.proofs.Layouts.{length_image}
 use Rattle.firmware_layouts.proofs.Laws as layouts
 use Rattle.firmware.proofs.Calls.{an_image}
-use Rattle.firmware_list.specs.Images.{count, are_images, is_list, records_of, images_of}
+use Rattle.firmware_list.specs.Images.{count, each_image, is_list, records_of, images_of}
 use Rattle.firmware_list.specs.Calls.{number, list_after, in_use_after, buffer_after, answer_after}
 use Rattle.firmware_list.specs.Laws.{EachLegal, Laws}
 use Rattle.firmware_list.proofs.Records.{is_images}
@@ -35,8 +35,8 @@ module _ (c : Client) (cs : List Client) where
   others : drop 32 (image_of c ++ images_of cs) ≡ images_of cs
   others = drop_at (image_of c) (images_of cs) 32 (length_image c)
 
-legal_images : (cs : List Client) → EachLegal cs → (are_images (length cs) (images_of cs) ≡ true) × (records_of (length cs) (images_of cs) ≡ cs)
-unfolding are_images records_of images_of
+legal_images : (cs : List Client) → EachLegal cs → (each_image is_image (length cs) (images_of cs) ≡ true) × (records_of (length cs) (images_of cs) ≡ cs)
+unfolding each_image records_of images_of
 legal_images [] legal = (refl, refl)
 legal_images (c ∷ cs) ((l, typed), legal) =
     let (is, back) = an_image (image_of c) c ((layouts.laws).has_image c typed l) in

@@ -1,6 +1,6 @@
 -- Images one after another: the tests of each in turn, and an image in its place.
 use mathlib.Core.Path.{◌≡◌, refl, sym, ap, ◌∙◌}
-use mathlib.Core.Bool.{Bool, true, false}
+use mathlib.Core.Bool.{Bool, true, false, ◌&&◌}
 use mathlib.Core.List.{List, ◌++◌, append_assoc}
 use Prim.Native.Nat.{ℕ, suc, ◌+◌, ◌-◌, ◌*◌, ◌%◌, ◌≤◌, ◌<◌}
 use native.Mathlib.Omega.{arith}
@@ -9,26 +9,67 @@ use borrow.Rule.Slice.PartMut.{put_mid}
 use lib.Dec.{eqb}
 use lib.ListN.{length, get_or, set, take, drop, length-drop, length-append}
 use lib.Seq.{drop-drop, take_at, drop_at, length-take-le, get_or-set_same, get_or-set_other, set_out}
+use Rattle.std.specs.Prelude.{Some, None, is_some}
 use Rattle.arithmetic.specs.Octets.{part}
 use Rattle.client.specs.declared.Client.{Client}
 use Rattle.client.specs.Record.{fresh}
-use Rattle.firmware_layouts.specs.Image.{is_image, record_in, image_of, with_image}
+use Rattle.firmware_layouts.specs.Image.{has_values, values_read, is_image, image_read, record_in, image_of, with_image}
 use Rattle.firmware_layouts.proofs.Laws.{with_image_lem}
-use Rattle.firmware_list.specs.Images.{count, are_images, is_list, HoldsFirst, with_record}
+use Rattle.firmware_list.specs.Images.{count, each_image, all_images, HoldsFirst, with_record}
 
 -- a part is cut by its two ends
 span : (at : ℕ) → 32 * at + 32 - 32 * at ≡ 32
 span at = omega arith
 
--- ---- whether it is a list
+-- ---- what reading says of an image
 
-pub not_whole : (list : List ℕ) → (length list % 32 ≡ 0 → ⊥) → is_list list ≡ false
-unfolding is_list
-not_whole list h = rw (ne_eqb (length list % 32) 0 h)
+module _ (image : List ℕ) where
+  pub read_values : (c : Client) → values_read image ≡ Some c → (has_values image ≡ true) × (record_in image ≡ c)
+  unfolding values_read
+  read_values c q = go (has_values image) refl
+    where
+      go : (b : Bool) → has_values image ≡ b → (has_values image ≡ true) × (record_in image ≡ c)
+      go true e = let r = rw e at q in (e, cc)
+      go false e = absurd (cc (rw e at q))
 
-pub whole_is : (list : List ℕ) (b : Bool) → length list % 32 ≡ 0 → are_images (count list) list ≡ b → is_list list ≡ b
-unfolding is_list
-whole_is list b h e = rw (eq-eqb (length list % 32) 0 h) e
+  other_values : values_read image ≡ None → has_values image ≡ false
+  unfolding values_read
+  other_values q = go (has_values image) refl
+    where
+      go : (b : Bool) → has_values image ≡ b → has_values image ≡ false
+      go true e = absurd (cc (rw e at q))
+      go false e = e
+
+  pub is_read : (b : Bool) → is_some (image_read image) ≡ b → is_image image ≡ b
+  unfolding image_read
+  is_read b q = go (is_image image) refl
+    where
+      go : (a : Bool) → is_image image ≡ a → is_image image ≡ b
+      go true e = e ∙ rw e at q
+      go false e = e ∙ rw e at q
+
+-- ---- whether all images pass a test
+
+module _ (test : List ℕ → Bool) (list : List ℕ) where
+  pub not_whole : (length list % 32 ≡ 0 → ⊥) → all_images test list ≡ false
+  not_whole h = rw (ne_eqb (length list % 32) 0 h)
+
+  pub not_each : each_image test (count list) list ≡ false → all_images test list ≡ false
+  not_each e = go (eqb (length list % 32) 0)
+    where
+      go : (b : Bool) → b && each_image test (count list) list ≡ false
+      go true = e
+      go false = refl
+
+  pub each : each_image test (count list) list ≡ true → all_images test list ≡ eqb (length list % 32) 0
+  each e = go (eqb (length list % 32) 0)
+    where
+      go : (b : Bool) → b && each_image test (count list) list ≡ b
+      go true = e
+      go false = refl
+
+  pub whole_and_each : length list % 32 ≡ 0 → each_image test (count list) list ≡ true → all_images test list ≡ true
+  whole_and_each h e = each e ∙ eq-eqb (length list % 32) 0 h
 
 -- ---- a turn of the loop: an image comes off the front of what is left
 
@@ -42,14 +83,21 @@ module _ (rest image later : List ℕ) (n : ℕ) (step : (rest ≡ image ++ late
   others : drop 32 rest ≡ later
   others = rw step.0 (drop_at image later 32 (step.1 ∙ whole))
 
-  module _ (b : Bool) (so_far : b ≡ are_images (count rest) rest) where
-    pub illegal_image : is_image image ≡ false → b ≡ false
-    unfolding are_images
-    illegal_image e = so_far ∙ rw (one_more, first, e)
+  module _ (test : List ℕ → Bool) (b : Bool) (so_far : b ≡ each_image test (count rest) rest) where
+    pub failed : test image ≡ false → b ≡ false
+    unfolding each_image
+    failed e = so_far ∙ rw (one_more, first, e)
 
-    pub legal_image : is_image image ≡ true → b ≡ are_images (count later) later
-    unfolding are_images
-    legal_image e = so_far ∙ rw (one_more, first, others, e)
+    pub passed : test image ≡ true → b ≡ each_image test (count later) later
+    unfolding each_image
+    passed e = so_far ∙ rw (one_more, first, others, e)
+
+  module _ (list : List ℕ) where
+    pub no_values : each_image has_values (count list) list ≡ each_image has_values (count rest) rest → values_read image ≡ None → all_images has_values list ≡ false
+    no_values so_far q = not_each has_values list (failed has_values _ so_far (other_values image q))
+
+    pub no_image : each_image is_image (count list) list ≡ each_image is_image (count rest) rest → is_some (image_read image) ≡ false → all_images is_image list ≡ false
+    no_image so_far q = not_each is_image list (failed is_image _ so_far (is_read image false q))
 
   module _ (list : List ℕ) (i j : ℕ) (here : rest ≡ drop (32 * i) list) (next : j ≡ i + 1) where
     pub later_images : later ≡ drop (32 * j) list
@@ -73,9 +121,9 @@ module _ (rest image later : List ℕ) (n : ℕ) (step : (rest ≡ image ++ late
 -- ---- the end of the loop
 
 module _ (rest : List ℕ) (n : ℕ) (short : length rest < n) (whole : n ≡ 32) where
-  pub all_legal : (b : Bool) → b ≡ are_images (count rest) rest → b ≡ true
-  unfolding are_images
-  all_legal b so_far = let e : count rest ≡ 0 = omega (arith, short, whole) in so_far ∙ rw e
+  pub all_pass : (test : List ℕ → Bool) (b : Bool) → b ≡ each_image test (count rest) rest → b ≡ true
+  unfolding each_image
+  all_pass test b so_far = let e : count rest ≡ 0 = omega (arith, short, whole) in so_far ∙ rw e
 
   pub all_passed : (list : List ℕ) (i : ℕ) → rest ≡ drop (32 * i) list → (k : ℕ) → k < count list → k < i
   all_passed list i here k h = let left = ap length here ∙ length-drop (32 * i) list in omega (arith, left, short, whole, h)

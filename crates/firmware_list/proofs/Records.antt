@@ -1,6 +1,6 @@
 -- A list that 46 does not refuse: its records by their numbers, and their images, which are the list.
 use mathlib.Core.Path.{◌≡◌, refl, sym, ap, ◌∙◌}
-use mathlib.Core.Bool.{Bool, true, false, ◌&&◌}
+use mathlib.Core.Bool.{Bool, true, false, not, ◌&&◌, ◌||◌}
 use mathlib.Core.List.{List, [], ◌∷◌, ◌++◌, append_assoc}
 use Prim.Native.Nat.{ℕ, zero, suc, ◌+◌, ◌*◌, ◌%◌, ◌<◌}
 use native.Mathlib.Nat.{le_of_suc-le-suc, not-suc-le-zero}
@@ -12,16 +12,18 @@ use lib.Seq.{drop-drop, get_or-drop, drop_at, take-append-add, drop-append-add, 
 use Rattle.arithmetic.specs.Octets.{part, AreOctets}
 use Rattle.arithmetic.proofs.Octets.{are_part}
 use Rattle.client.specs.declared.Client.{Client}
-use Rattle.client.specs.Record.{fresh}
-use Rattle.firmware_layouts.specs.Image.{is_image, record_in, image_of, image_read}
+use Rattle.std.specs.List.{list_any}
+use Rattle.client.specs.Record.{fresh, illegal}
+use Rattle.association_rules.specs.Associations.{any_illegal}
+use Rattle.firmware_layouts.specs.Image.{has_values, is_image, record_in, image_of, image_read}
 use Rattle.firmware_layouts.proofs.Layouts.{length_image}
 use Rattle.firmware_layouts.proofs.Laws.{laws}
-use Rattle.firmware_list.specs.Images.{count, are_images, is_list, records_of, records_in, images_of, with_record}
+use Rattle.firmware_list.specs.Images.{count, each_image, is_list, list_has_values, records_of, records_in, images_of, with_record}
 
-both : (a b : Bool) → a && b ≡ true → (a ≡ true) × (b ≡ true)
-both true b e = (refl, e)
-both false true e = (e, refl)
-both false false e = (e, e)
+pub and_true : (a b : Bool) → a && b ≡ true → (a ≡ true) × (b ≡ true)
+and_true true b e = (refl, e)
+and_true false true e = (e, refl)
+and_true false false e = (e, e)
 
 -- ---- records by their numbers
 
@@ -39,6 +41,36 @@ numbered zero k list h = absurd (not-suc-le-zero h)
 numbered (suc n) zero list h = refl
 numbered (suc n) (suc k) list h = numbered n k (drop 32 list) (le_of_suc-le-suc h) ∙ ap record_in (later_image k list)
 
+-- ---- a list of legal values, and its records
+
+exchanged : (a b c d : Bool) → (a && not b) && (c && not d) ≡ (a && c) && not (b || d)
+exchanged false b c d = refl
+exchanged true true true d = refl
+exchanged true true false d = refl
+exchanged true false c d = refl
+
+an_image : (image : List ℕ) → is_image image ≡ has_values image && not (illegal (record_in image))
+unfolding is_image has_values
+an_image image = refl
+
+legal_images : (n : ℕ) (list : List ℕ) → each_image is_image n list ≡ each_image has_values n list && not (any_illegal (records_of n list))
+unfolding each_image records_of any_illegal
+legal_images zero list = refl
+legal_images (suc n) list =
+    let image = take 32 list in
+    let rest = drop 32 list in
+    rw (an_image image, legal_images n rest)
+    (exchanged (has_values image) (illegal (record_in image)) (each_image has_values n rest) (list_any illegal (records_of n rest)))
+
+-- a list is legal where its values are and no record is illegal
+pub legal_list : (list : List ℕ) → is_list list ≡ list_has_values list && not (any_illegal (records_in list))
+unfolding is_list list_has_values
+legal_list list = go (eqb (length list % 32) 0)
+  where
+    go : (w : Bool) → w && each_image is_image (count list) list ≡ (w && each_image has_values (count list) list) && not (any_illegal (records_in list))
+    go true = legal_images (count list) list
+    go false = refl
+
 -- ---- the images of records
 
 image_back : (image : List ℕ) → AreOctets image → is_image image ≡ true → image_of (record_in image) ≡ image
@@ -47,12 +79,12 @@ image_back image o e = sym (laws.one_image image (record_in image) o (unfold ima
 are_drop : (list : List ℕ) → AreOctets list → AreOctets (drop 32 list)
 are_drop list o i = rw (get_or-drop 32 list i 0) (o (32 + i))
 
-images_back : (n : ℕ) (list : List ℕ) → AreOctets list → length list ≡ 32 * n → are_images n list ≡ true → images_of (records_of n list) ≡ list
-unfolding images_of records_of are_images
+images_back : (n : ℕ) (list : List ℕ) → AreOctets list → length list ≡ 32 * n → each_image is_image n list ≡ true → images_of (records_of n list) ≡ list
+unfolding images_of records_of each_image
 images_back zero [] o l e = refl
 images_back zero (x ∷ list) o l e = absurd (omega arith)
 images_back (suc n) list o l e =
-    let (first, rest) = both (is_image (take 32 list)) _ e in
+    let (first, rest) = and_true (is_image (take 32 list)) _ e in
     let m : length (drop 32 list) ≡ 32 * n = length-drop 32 list ∙ omega arith in
     rw (image_back (take 32 list) (are_part 0 32 list o) first, images_back n (drop 32 list) (are_drop list o) m rest) (take-append-drop 32 list)
 
@@ -87,11 +119,11 @@ without_record list at c e = rw e
 module _ (list : List ℕ) (is : is_list list ≡ true) where
   whole : length list % 32 ≡ 0
   unfolding is_list
-  whole = eqb-true (length list % 32) 0 (both (eqb (length list % 32) 0) _ is).0
+  whole = eqb-true (length list % 32) 0 (and_true (eqb (length list % 32) 0) _ is).0
 
-  legal : are_images (count list) list ≡ true
+  legal : each_image is_image (count list) list ≡ true
   unfolding is_list
-  legal = (both (eqb (length list % 32) 0) _ is).1
+  legal = (and_true (eqb (length list % 32) 0) _ is).1
 
   module _ (o : AreOctets list) where
     pub is_images : images_of (records_in list) ≡ list

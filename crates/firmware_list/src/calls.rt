@@ -9,7 +9,7 @@ ghost use Rattle.firmware.specs.Numbers.{number_of};
 ghost use Rattle.firmware_list.specs.Images.{with_record};
 ghost use Rattle.firmware_list.specs.Calls.{ask, arrival, give_up, number, list_after, in_use_after, buffer_after, answer_after};
 
-use crate::images::{lend, store};
+use crate::images::{end, lend};
 use client::Client;
 use firmware::numbers::narrow;
 use firmware_layouts::{ANSWER, write_answer};
@@ -17,21 +17,6 @@ use refusals::{Refusal, result_number};
 use reply_checks::ArrivalAnswer;
 use timestamp::Timestamp;
 use token::Token;
-
-// The end of a call: the image of the record that was called is put in its place, unless the call is refused.
-fn end<T>(
-    list: &mut [u8],
-    at: usize,
-    answer: Result<T, Refusal>,
-    lent: &[Client],
-) -> Result<T, Refusal>
-    ensures answer { result ≡ answer }
-    ensures list { list.new ≡ kept_of answer list.old (with_record list.old at (association lent.now at)) }
-{
-    let told = answer?;
-    store(list, at, lent.get(at).copied().unwrap_or(Client::fresh()));
-    Ok(told)
-}
 
 // Writes what is told of an arrival, unless the call is refused.
 #[tactic(auto, using(firmware::proofs::Calls::kept))]
@@ -59,7 +44,7 @@ fn ask(
     ensures buffer { buffer.new ≡ buffer_after list.old at in_use (ask buffer.old version clock token uptime) }
 {
     let mut records = [Client::fresh(); 8];
-    let lent = lend(list, &mut records)?;
+    let lent = lend(list, &mut records);
     let called = associations::ask(
         lent,
         at,
@@ -91,7 +76,7 @@ fn arrival(
         return Err(Refusal::ImageNotLegal);
     }
     let mut records = [Client::fresh(); 8];
-    let lent = lend(list, &mut records)?;
+    let lent = lend(list, &mut records);
     let called = associations::arrival(lent, at, *in_use, packet, Timestamp::from(t4));
     // A refusal hands the number in use back as it was.
     *in_use = called.in_use;
@@ -104,7 +89,7 @@ fn give_up(list: &mut [u8], at: usize, in_use: usize, uptime: u64) -> Result<(),
     ensures list { list.new ≡ list_after list.old at in_use (give_up uptime) }
 {
     let mut records = [Client::fresh(); 8];
-    let lent = lend(list, &mut records)?;
+    let lent = lend(list, &mut records);
     let called = associations::give_up(lent, at, in_use, uptime);
     end(list, at, called.answer, lent)
 }

@@ -1,11 +1,11 @@
 // Images that stand one after another, read and written.
-ghost use Rattle.std.specs.Prelude.{◌≡◌, true, false, MatchResult, length, set};
-ghost use Rattle.refusals.specs.declared.Refusal.TheVariants.{ImageNotLegal};
-ghost use Rattle.firmware_list.specs.Images.{count, is_list, HoldsFirst, lent_of, with_record};
+ghost use Rattle.std.specs.Prelude.{◌≡◌, true, length, set};
+ghost use Rattle.ordered_tests.specs.Tests.{kept_of};
+ghost use Rattle.association_rules.specs.Associations.{association};
+ghost use Rattle.firmware_list.specs.Images.{count, is_list, list_has_values, HoldsFirst, lent_of, outer_refusal, outer_answer, with_record};
 
 use client::Client;
-use firmware::client_calls::record_of;
-use firmware_layouts::{IMAGE, write_image};
+use firmware_layouts::{IMAGE, read_image, record_of_values, write_image};
 use refusals::Refusal;
 
 // Puts a record at its number; past the eighth it puts nothing.
@@ -18,35 +18,82 @@ fn put(records: &mut [Client; 8], at: usize, client: Client)
     }
 }
 
-// Puts the records of the first eight images in their places, and refuses by 46 a list that is not legal. Each image is read once. The records are lent: a Result of
+// Puts the records of the first eight images in their places, and tells whether all images have legal values. Each image is read once. The records are lent: a Result of
 // them would be copied by memset and memcpy, and the archive calls nothing of the C library (docs/C.md).
-#[tactic(auto, using(crate::proofs::Lists::not_whole, crate::proofs::Lists::whole_is, crate::proofs::Lists::illegal_image))]
-pub(crate) fn load(list: &[u8], records: &mut [Client; 8]) -> Result<(), Refusal>
-    ensures { MatchResult result (λ _. (is_list list.now ≡ true) × (length records.new ≡ 8) × HoldsFirst records.new (count list.now) list.now) (λ r. (is_list list.now ≡ false) × (r ≡ ImageNotLegal)) }
+#[tactic(auto, using(crate::proofs::Lists::not_whole, crate::proofs::Lists::no_values), unfolding(crate::specs::Images::list_has_values))]
+fn load(list: &[u8], records: &mut [Client; 8]) -> bool
+    ensures values { result ≡ list_has_values list.now }
+    ensures records { result ≡ true → (length records.new ≡ 8) × HoldsFirst records.new (count list.now) list.now }
 {
     if list.len() % IMAGE != 0 {
-        return Err(Refusal::ImageNotLegal);
+        return false;
     }
     for (i, image) in list.chunks_exact(IMAGE).enumerate() {
-        put(records, i, record_of(image)?);
+        let Some(client) = record_of_values(image) else {
+            return false;
+        };
+        put(records, i, client);
     }
-    Ok(())
+    true
 }
 
-// The records that the inner call is lent. A list of more than eight is lent as an empty one: 35 refuses both.
-#[tactic(auto, using(crate::proofs::Lent::all_lent, crate::proofs::Lent::none_lent))]
-pub(crate) fn lend<'a>(
-    list: &[u8],
-    records: &'a mut [Client; 8],
-) -> Result<&'a mut [Client], Refusal>
-    ensures { MatchResult result (λ lent. (is_list list.now ≡ true) × (lent.now ≡ lent_of list.now)) (λ r. (is_list list.now ≡ false) × (r ≡ ImageNotLegal)) }
+// The records that the inner call is lent. It tests them for legality itself. A list of more than eight or of other values is lent as an empty one, which 35 refuses.
+#[tactic(auto, using(crate::proofs::Lent::all_lent, crate::proofs::Lent::none_lent, crate::proofs::Lent::values_not_lent))]
+pub(crate) fn lend<'a>(list: &[u8], records: &'a mut [Client; 8]) -> &'a mut [Client]
+    ensures { result.now ≡ lent_of list.now }
 {
-    load(list, records)?;
-    Ok(records.get_mut(..list.len() / IMAGE).unwrap_or_default())
+    let count = if load(list, records) {
+        list.len() / IMAGE
+    } else {
+        0
+    };
+    records.get_mut(..count).unwrap_or_default()
+}
+
+// Whether 46 is not given.
+#[tactic(auto, using(crate::proofs::Lists::no_image), unfolding(crate::specs::Images::is_list))]
+fn is_list(list: &[u8]) -> bool
+    ensures { result ≡ is_list list.now }
+{
+    for image in list.chunks_exact(IMAGE) {
+        if read_image(image).is_none() {
+            return false;
+        }
+    }
+    list.len() % IMAGE == 0
+}
+
+// 46 comes before anything else: the inner call's refusal by 35 or 29 is one by 46 if the list is not legal. After both the list is as it was.
+fn outer_refusal(list: &[u8], inner: Refusal) -> Refusal
+    ensures { result ≡ outer_refusal (is_list list.now) inner }
+{
+    match inner {
+        Refusal::NotInList | Refusal::RecordNotLegal if !is_list(list) => Refusal::ImageNotLegal,
+        _ => inner,
+    }
+}
+
+// The end of a call: the image of the record that was called is put in its place, unless the call is refused.
+pub(crate) fn end<T>(
+    list: &mut [u8],
+    at: usize,
+    answer: Result<T, Refusal>,
+    lent: &[Client],
+) -> Result<T, Refusal>
+    ensures answer { result ≡ outer_answer (is_list list.old) answer }
+    ensures list { list.new ≡ kept_of answer list.old (with_record list.old at (association lent.now at)) }
+{
+    match answer {
+        Ok(told) => {
+            store(list, at, lent.get(at).copied().unwrap_or(Client::fresh()));
+            Ok(told)
+        }
+        Err(inner) => Err(outer_refusal(list, inner)),
+    }
 }
 
 // Puts the image of a record in the place of a number; past the end of the list nothing is stored.
-pub(crate) fn store(list: &mut [u8], at: usize, client: Client)
+fn store(list: &mut [u8], at: usize, client: Client)
     ensures { list.new ≡ with_record list.old at client }
 {
     if at < list.len() / IMAGE {

@@ -1,24 +1,27 @@
 -- Each turn tests one image, and puts the record of one of the first eight in its place.
-use Rattle.std.proofs.Common.{◌∙◌, arith}
+use Rattle.std.proofs.Common.{◌∙◌, sym, arith}
 use Rattle.std.proofs.lemmas.List.{length-set}
-use Rattle.firmware_list.proofs.Lists.{whole_is, legal_image, later_images, placed, all_legal, all_passed}
+use Rattle.firmware_layouts.specs.Image.{has_values}
+use Rattle.firmware_list.specs.Images.{list_has_values}
+use Rattle.firmware_list.proofs.Lists.{read_values, passed, later_images, placed, whole_and_each, all_pass}
 use Rattle.firmware_list.proofs.images.load.Goals as goal
 
 pub loop-i-preserved : goal.loop-i-preserved
 loop-i-preserved c =
     let inv = c.loop-i.invariant in
-    let (legal, is) = c.in_ok-record_of.ensures in
+    let (values, is) = read_values _ _ (sym c.record_of_values.ensures ∙ c.in-Some-record_of_values.is) in
     let steps = c.in-Some.ensures.steps in
     rw c.put.ensures (record {
       size = steps.0.0 ∙ inv.size;
       rest = later_images _ _ _ _ steps.0.1 inv.size _ _ _ inv.rest steps.2;
-      legal = legal_image _ _ _ _ steps.0.1 inv.size _ inv.legal legal;
+      values = passed _ _ _ _ steps.0.1 inv.size has_values _ inv.values values;
       holds = placed _ _ _ _ steps.0.1 inv.size _ _ _ inv.rest steps.2 _ inv.holds inv.eight _ _ steps.1 is;
       eight = length-set _ _ _ ∙ inv.eight;
     })
 
-pub returns : goal.returns
-returns c =
+pub returns-clause-values : goal.returns-clause-values
+unfolding list_has_values
+returns-clause-values c =
     let inv = c.loop-i.invariant in
     let short = c.in-None.ensures.steps.0.1.0 in
-    (whole_is _ _ (omega arith) (all_legal _ _ short inv.size _ inv.legal), inv.eight, λ k h few. inv.holds k (all_passed _ _ short inv.size _ _ inv.rest k h) few)
+    sym (whole_and_each has_values _ (omega arith) (all_pass _ _ short inv.size has_values _ inv.values))
