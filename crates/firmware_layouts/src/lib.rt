@@ -78,7 +78,8 @@ pub fn record_of_values(image: &[u8]) -> Option<Client>
 pub fn read_image(image: &[u8]) -> Option<Client>
     ensures { result ≡ image_read image.now }
 {
-    record_of_values(image).filter(|c| !c.illegal())
+    let client = record_of_values(image)?;
+    (!client.illegal()).then_some(client)
 }
 
 // ---- both, written

@@ -37,20 +37,19 @@ fn load(list: &[u8], records: &mut [Client; 8]) -> bool
     true
 }
 
-// The records that the inner call is lent. It tests them for legality itself. A list of more than eight or of other values is lent as an empty one, which 35 refuses.
+// The records that the inner call is lent; it tests them for legality itself. A list of more than eight, or one with an image of other values, is lent as an empty list,
+// which 35 refuses.
 #[tactic(auto, using(crate::proofs::Lent::all_lent, crate::proofs::Lent::none_lent, crate::proofs::Lent::values_not_lent))]
 pub(crate) fn lend<'a>(list: &[u8], records: &'a mut [Client; 8]) -> &'a mut [Client]
     ensures { result.now ≡ lent_of list.now }
 {
-    let count = if load(list, records) {
-        list.len() / IMAGE
-    } else {
-        0
-    };
-    records.get_mut(..count).unwrap_or_default()
+    if !load(list, records) {
+        return &mut [];
+    }
+    records.get_mut(..list.len() / IMAGE).unwrap_or_default()
 }
 
-// Whether 46 is not given.
+// Tells whether the list is legal. 46 refuses any other.
 #[tactic(auto, using(crate::proofs::Lists::no_image), unfolding(crate::specs::Images::is_list))]
 fn is_list(list: &[u8]) -> bool
     ensures { result ≡ is_list list.now }
@@ -63,7 +62,7 @@ fn is_list(list: &[u8]) -> bool
     list.len() % IMAGE == 0
 }
 
-// 46 comes before anything else: the inner call's refusal by 35 or 29 is one by 46 if the list is not legal. After both the list is as it was.
+// 46 comes before anything else: the inner call's refusal by 35 or 29 becomes one by 46 if the list is not legal. After 35 and 29 nothing is changed.
 fn outer_refusal(list: &[u8], inner: Refusal) -> Refusal
     ensures { result ≡ outer_refusal (is_list list.now) inner }
 {
