@@ -1,4 +1,4 @@
--- The calls on a list: what they give on the records that are lent is what the rules say of the list's own.
+-- The calls on a list: what they give on the records that are lent, with 46 in place of 35 and 29 if the list is not legal, is what the rules say of the list.
 use mathlib.Core.Path.{◌≡◌, refl, sym, ap, ◌∙◌}
 use mathlib.Core.Bool.{Bool, true, false, not, cond, ◌&&◌}
 use mathlib.Core.List.{List, []}

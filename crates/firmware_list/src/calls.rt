@@ -28,7 +28,7 @@ fn write_told(answer: &mut [u8], told: Result<ArrivalAnswer, Refusal>) -> Result
     Ok(())
 }
 
-#[tactic(auto, using(crate::proofs::Lent::on_lent), unfolding(crate::specs::Calls::number, crate::specs::Calls::list_after, crate::specs::Calls::buffer_after))]
+#[tactic(auto, using(crate::proofs::Lent::on_lent))]
 fn ask(
     list: &mut [u8],
     at: usize,
@@ -83,7 +83,7 @@ fn arrival(
     write_told(answer, end(list, at, called.answer, lent))
 }
 
-#[tactic(auto, using(crate::proofs::Lent::on_lent), unfolding(crate::specs::Calls::number, crate::specs::Calls::list_after))]
+#[tactic(auto, using(crate::proofs::Lent::on_lent))]
 fn give_up(list: &mut [u8], at: usize, in_use: usize, uptime: u64) -> Result<(), Refusal>
     ensures number { result_number result ≡ number list.old at in_use (give_up uptime) }
     ensures list { list.new ≡ list_after list.old at in_use (give_up uptime) }
