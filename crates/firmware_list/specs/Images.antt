@@ -48,7 +48,7 @@ HoldsFirst records n list = (k : ℕ) → k < n → k < 8 → get_or records k f
 unfoldable pub list_has_values : List ℕ → Bool
 list_has_values list = all_images has_values list
 
--- the records that the inner call is lent: none of more than eight, and none of other values, since 35 refuses an empty list too
+-- the records that the inner call is lent: none of more than eight, since 35 refuses an empty list too, and none where an octet has a value that no image has
 abbrev pub lent_of : List ℕ → List Client
 lent_of list = cond (leb (count list) 8 && list_has_values list) (records_in list) []
 

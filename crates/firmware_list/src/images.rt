@@ -37,8 +37,8 @@ fn load(list: &[u8], records: &mut [Client; 8]) -> bool
     true
 }
 
-// The records that the inner call is lent; it tests them for legality itself. A list of more than eight, or one with an image of other values, is lent as an empty list,
-// which 35 refuses.
+// The records that the inner call is lent; it tests them for legality itself. A list of more than eight, or one with octets that no image has, is lent as an empty
+// list, which 35 refuses.
 #[tactic(auto, using(crate::proofs::Lent::all_lent, crate::proofs::Lent::none_lent, crate::proofs::Lent::values_not_lent))]
 pub(crate) fn lend<'a>(list: &[u8], records: &'a mut [Client; 8]) -> &'a mut [Client]
     ensures { result.now ≡ lent_of list.now }
