@@ -30,7 +30,7 @@ telling values = record { kind = acceptance; number = 0; values = values }
 
 infixr 3 ◌unless◌then◌ ◌provided◌else◌
 pub data Rules (O : Type 0) : Type 1 where
-  ◌unless◌then◌ : Refusal → Type 0 → Rules O → Rules O  -- refused by it unless the fact holds; else the rest
+  ◌unless◌then◌ : Refusal → Type 0 → Rules O → Rules O  -- refused by it unless the fact holds; if it holds, the rest
   ◌provided◌else◌ : O → Type 0 → Rules O → Rules O  -- this outcome provided the fact holds, and no later rule is looked at; else the rest
   does : O → Rules O  -- this outcome
   refuses : Refusal → Rules O  -- refused by it, whatever the call is given

@@ -13,13 +13,13 @@ abbrev pub before : ℕ → Frame → Frame
 before x (octets xs) = octets (x ∷ xs)
 before x malformed = malformed
 
--- two digits in front of a frame's octets; malformed if one of them is no digit
+-- adds the octet of two digits before a frame's octets; malformed if either is not a digit
 abbrev pub pair : Option ℕ → Option ℕ → Frame → Frame
 pair (Some high) (Some low) frame = before (high * 16 + low) frame
 pair (Some high) None frame = malformed
 pair None low frame = malformed
 
--- the octets that a line's characters are; malformed if a character is no digit, or if a digit is left over
+-- decodes the characters of a line; malformed if a character is not a hexadecimal digit, or if their number is odd
 abbrev pub decode : List ℕ → Frame
 decode [] = octets []
 decode (a ∷ []) = malformed
