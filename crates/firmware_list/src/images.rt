@@ -37,16 +37,17 @@ fn load(list: &[u8], records: &mut [Client; 8]) -> bool
     true
 }
 
-// The records that the inner call is lent; it tests them for legality itself. A list of more than eight, or one with octets that no image has, is lent as an empty
-// list, which 35 refuses.
+// The records that the inner call is lent; it tests them for legality itself. A list of more than eight, of which nothing is read here, or one with octets that no
+// image has, is lent as an empty list, which 35 refuses.
 #[tactic(auto, using(crate::proofs::Lent::all_lent, crate::proofs::Lent::none_lent, crate::proofs::Lent::values_not_lent))]
 pub(crate) fn lend<'a>(list: &[u8], records: &'a mut [Client; 8]) -> &'a mut [Client]
     ensures { result.now ≡ lent_of list.now }
 {
-    if !load(list, records) {
+    let count = list.len() / IMAGE;
+    if 8 < count || !load(list, records) {
         return &mut [];
     }
-    records.get_mut(..list.len() / IMAGE).unwrap_or_default()
+    records.get_mut(..count).unwrap_or_default()
 }
 
 // Tells whether the list is legal. 46 refuses any other.
@@ -54,12 +55,16 @@ pub(crate) fn lend<'a>(list: &[u8], records: &'a mut [Client; 8]) -> &'a mut [Cl
 fn is_list(list: &[u8]) -> bool
     ensures { result ≡ is_list list.now }
 {
+    // Before the images: a list with a part of an image is refused at the same cost whatever its length.
+    if 0 < list.len() % IMAGE {
+        return false;
+    }
     for image in list.chunks_exact(IMAGE) {
         if read_image(image).is_none() {
             return false;
         }
     }
-    list.len() % IMAGE == 0
+    true
 }
 
 // 46 comes before anything else: the inner call's refusal by 35 or 29 becomes one by 46 if the list is not legal. After 35 and 29 nothing is changed.

@@ -1,9 +1,9 @@
 -- Each turn tests one image.
-use Rattle.std.proofs.Common.{◌∙◌, sym, ap, true}
+use Rattle.std.proofs.Common.{◌∙◌, sym, ap, true, arith}
 use Rattle.std.specs.Prelude.{is_some}
 use Rattle.firmware_layouts.specs.Image.{is_image}
 use Rattle.firmware_list.specs.Images.{is_list}
-use Rattle.firmware_list.proofs.Lists.{is_read, passed, each, all_pass}
+use Rattle.firmware_list.proofs.Lists.{is_read, passed, whole_and_each, all_pass}
 use Rattle.firmware_list.proofs.images.is_list.Goals as goal
 
 pub loop-image-preserved : goal.loop-image-preserved
@@ -20,4 +20,4 @@ unfolding is_list
 returns c =
     let inv = c.loop-image.invariant in
     let short = c.in-None.ensures.steps.1.0 in
-    sym (each is_image _ (all_pass _ _ short inv.size is_image _ inv.legal))
+    sym (whole_and_each is_image _ (omega arith) (all_pass _ _ short inv.size is_image _ inv.legal))
