@@ -81,9 +81,9 @@ module _ (x y : Timestamp) (h : x.0 < 2 ^ 64) (k : y.0 < 2 ^ 64) where
   unfolding ◌since◌
   since_bits = difference_wraps 64 raw_bits x.0 y.0 (omega arith) (omega arith)
 
-  module _ {r : ℤ} (e : r ≡ to_z w64 raw_bits) where
+  module _ {r : ℤ} (e : r ≡ signed 64 raw_bits) where
     back : of_z w64 r ≡ raw_bits
-    back = rw e (of_z-to_z {w = w64} (record { fits = omega arith }))
+    back = rw (e, signed_to_z w64 raw_bits (omega arith)) (of_z-to_z {w = w64} (record { fits = omega arith }))
 
     same_test : eqb (of_z w64 r) (2 ^ 63) ≡ has_no_order (x since y)
     same_test = rw (back, since_bits) (go (eqb raw_bits (2 ^ 63)) refl)

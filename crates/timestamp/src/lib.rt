@@ -78,7 +78,7 @@ impl Timestamp {
     pub fn minus(self, other: Timestamp) -> Option<i64>
         ensures { result ≡ ordered (self since other) }
     {
-        let difference = self.0.wrapping_sub(other.0).cast_signed();
+        let difference = twos_complement::signed64(self.0.wrapping_sub(other.0));
         (difference != i64::MIN).then_some(difference)
     }
 }

@@ -4,4 +4,4 @@ use Rattle.timestamp.proofs.Order.{differs}
 use Rattle.timestamp.proofs.Timestamp.minus.Goals as goal
 
 pub returns : goal.returns
-returns c = c.then_some.ensures ∙ differs c.args.self c.args.other (omega arith) (omega arith) c.cast_signed-difference.ensures
+returns c = c.then_some.ensures ∙ differs c.args.self c.args.other (omega arith) (omega arith) c.signed64-difference.ensures
