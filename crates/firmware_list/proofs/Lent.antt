@@ -2,7 +2,7 @@
 use mathlib.Core.Path.{◌≡◌, refl, sym, ap, ◌∙◌}
 use mathlib.Core.Bool.{Bool, true, false, not, cond, ◌&&◌}
 use mathlib.Core.List.{List, []}
-use Prim.Native.Nat.{ℕ, ◌-◌, ◌≤◌, ◌<◌}
+use Prim.Native.Nat.{ℕ, ◌≤◌, ◌<◌}
 use native.Mathlib.Omega.{arith}
 use borrow.Author.Tests.{leb-false, le-leb, lt-leb, eq-eqb}
 use lib.Dec.{leb}
@@ -15,7 +15,7 @@ use Rattle.client.specs.declared.Called.{Called}
 use Rattle.client.specs.Ask.{after_ask}
 use Rattle.client.specs.GiveUp.{gave_up}
 use Rattle.client.specs.Calls.{Told, said_call, said_arrival}
-use Rattle.std.specs.Prelude.{Result, Ok, Err, min, slice_range}
+use Rattle.std.specs.Prelude.{Result, Ok, Err, min}
 use Rattle.refusals.specs.declared.Refusal.{Refusal}
 use Rattle.refusals.specs.declared.Refusal.TheVariants.{NotInList, RecordNotLegal, ImageNotLegal}
 use Rattle.refusals.specs.Numbers as refusals
@@ -69,17 +69,16 @@ module _ (list : List ℕ) where
   -- ---- the records that are lent
 
   module _ (records : List Client) (eight : length records ≡ 8) where
-    pub all_lent : list_has_values list ≡ true → HoldsFirst records (count list) list → count list ≤ length records → slice_range records 0 (count list) ≡ lent_of list
+    pub all_lent : list_has_values list ≡ true → HoldsFirst records (count list) list → count list ≤ 8 → take (count list) records ≡ lent_of list
     all_lent values holds short =
-        let n = length-take-le (count list) records short in
-        let all : count list - 0 ≡ count list = omega arith in
-        rw (le-leb (count list) 8 (omega (arith, eight)), values, all)
+        let n = length-take-le (count list) records (omega (arith, eight)) in
+        rw (le-leb (count list) 8 short, values)
         (ext_get_or fresh (take (count list) records) (records_in list) (n ∙ sym (length_records (count list) list)) (λ k inside.
         let h : k < count list = omega (arith, n) in
         get_or-take (count list) records k fresh h ∙ holds k h (omega arith) ∙ sym (numbered (count list) k list h)))
 
-    pub none_lent : length records < count list → [] ≡ lent_of list
-    none_lent more = rw (lt-leb (count list) 8 (omega (arith, eight)))
+  pub none_lent : 8 < count list → [] ≡ lent_of list
+  none_lent more = rw (lt-leb (count list) 8 more)
 
   pub values_not_lent : list_has_values list ≡ false → [] ≡ lent_of list
   values_not_lent e = go (leb (count list) 8)

@@ -47,7 +47,7 @@ pub(crate) fn lend<'a>(list: &[u8], records: &'a mut [Client; 8]) -> &'a mut [Cl
     if 8 < count || !load(list, records) {
         return &mut [];
     }
-    records.get_mut(..count).unwrap_or_default()
+    &mut records[..count]
 }
 
 // Tells whether the list is legal. 46 refuses any other.
